@@ -1,0 +1,39 @@
+-- A rule at every number below a bound, by one computed test; lists whose elements are bytes.
+use mathlib.Core.Path.{_≡_, refl, sym, subst}
+use mathlib.Core.Logic.{⊎-elim}
+use mathlib.Core.Bool.{Bool, true, false, _&&_}
+use Prim.Native.Nat.{ℕ, zero, suc, _≤_, _<_}
+use native.Mathlib.Nat.{le-of-suc-le-suc, not-suc-le-zero, eq-or-lt-of-le}
+use mathlib.Core.List.{List}
+use native.Mathlib.Omega.{arith}
+use borrow.Author.Tests.{ltb-true, ltb-false}
+use lib.Dec.{T, ltb}
+use lib.ListN.{length, take, getD, length-take, List·getD-eq-default}
+use lib.Seq.{getD-take}
+use mir.Facts.{and-yes}
+
+-- by the two values of a test
+pub cases : {A : Type 0} (t : Bool) → (t ≡ true → A) → (t ≡ false → A) → A
+cases true f g = f refl
+cases false f g = g refl
+
+-- f holds at each number below n
+abbrev pub all : (ℕ → Bool) → ℕ → Bool
+all f zero = true
+all f (suc n) = f n && all f n
+
+pub below : (f : ℕ → Bool) (n : ℕ) → T (all f n) → (b : ℕ) → b < n → T (f b)
+below f zero t b h = absurd (not-suc-le-zero h)
+below f (suc n) t b h =
+    ⊎-elim (λ (e : b ≡ n). subst (λ (m : ℕ). T (f m)) (sym e) (and-yes (f n) (all f n) t .0))
+    (λ (l : b < n). below f n (and-yes (f n) (all f n) t .1) b l)
+    (eq-or-lt-of-le (le-of-suc-le-suc h))
+
+-- Each element is a byte.
+abbrev pub Bytes : List ℕ → Type 0
+Bytes s = (i : ℕ) → getD s i 0 < 256
+
+pub bytes-take : (s : List ℕ) (n : ℕ) → Bytes s → Bytes (take n s)
+bytes-take s n b i =
+    cases (ltb i n) (λ e. rw (getD-take n s i 0 (ltb-true _ _ e)) (b i))
+    (λ e. let g : n ≤ i = ltb-false _ _ e in rw (List·getD-eq-default (take n s) 0 {n = i} (simp length-take (omega arith))) (omega arith))

@@ -1,0 +1,36 @@
+-- The check byte: document 01, "The frame", third rule.
+use Prim.Native.Nat.{ℕ, zero, suc, _+_, _-_, _*_}
+use mathlib.Core.Bool.{Bool, cond, _&&_}
+use mathlib.Core.List.{List, [], _∷_, _++_}
+use lib.Bits.{bitXor}
+use lib.Dec.{ltb, eqb}
+use lib.ListN.{length, take, getD}
+
+-- One bit of the register, most significant bit first: it moves up by one place, and where a one leaves it,
+-- x^4 + x^3 + x^2 + 1 (1Dh) is added in.
+unfoldable pub step : ℕ → ℕ
+step r = cond (ltb r 128) (r * 2) (bitXor ((r - 128) * 2) 0x1D)
+
+unfoldable pub steps : ℕ → ℕ → ℕ
+steps zero r = r
+steps (suc n) r = step (steps n r)
+
+-- One byte: added in, then eight steps of one bit.
+unfoldable pub feed : ℕ → ℕ → ℕ
+feed r b = steps 8 (bitXor r b)
+
+unfoldable pub register : ℕ → List ℕ → ℕ
+register r [] = r
+register r (b ∷ s) = register (feed r b) s
+
+-- The register starts all ones, and its complement is sent.
+unfoldable pub checkByte : List ℕ → ℕ
+checkByte s = 255 - register 255 s
+
+-- A run and its check byte.
+unfoldable pub sealed : List ℕ → List ℕ
+sealed s = s ++ checkByte s ∷ []
+
+-- Whether a run has a last byte and that is the check byte of those before it.
+unfoldable pub isSealed : List ℕ → Bool
+isSealed s = ltb 0 (length s) && eqb (getD s (length s - 1) 0) (checkByte (take (length s - 1) s))
