@@ -1,3 +1,6 @@
 -- Laws that belong to no one function.
 pub mod Bytes
-pub mod CheckByte
+pub mod CheckByteLaws
+pub mod HeaderLaws
+pub mod FrameLaws
+pub mod ReaderLaws

@@ -1,5 +1,5 @@
 // Frames of SAE J1850 with consolidated headers: byte runs to parts, and parts to byte runs.
 pub mod check_byte;
 pub mod header;
-//pub mod reader;
-//pub mod writer;
+pub mod reader;
+// pub mod writer;

@@ -4,7 +4,7 @@ use Prim.Native.Nat.{ℕ, _≤_, _<_, _-_, _+_, suc}
 use native.Mathlib.Omega.{arith}
 use lib.ListN.{length, drop}
 use Rattle.frame.specs.CheckByte.{register, checkByte}
-use Rattle.frame.proofs.CheckByte.{register-next, register-end}
+use Rattle.frame.proofs.CheckByteLaws.{register-next, register-end}
 use Rattle.frame.proofs.check_byte.check_byte.Statement.{statement}
 use Rattle.frame.proofs.check_byte.check_byte.Tie as tie
 

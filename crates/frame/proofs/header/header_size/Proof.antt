@@ -1,0 +1,23 @@
+-- Bit 4, moved down and masked, is H.
+use mathlib.Core.Path.{_≡_, sym, ap, _∙_}
+use Rattle.frame.specs.Header.{bitH}
+use Rattle.frame.proofs.HeaderLaws.{masked-h, three, one}
+use borrow.Author.Needs.{needs}
+use Rattle.frame.proofs.header.header_size.Statement.{statement}
+use Rattle.frame.proofs.header.header_size.Tie as tie
+
+first-byte-requires : tie.Need-first-byte-requires
+first-byte-requires c κs = search needs
+
+returns : tie.Need-returns
+returns c =
+    sym (three (c .before .before .before .args .run .now)
+    (ap bitH (sym (c .before .first-byte .ensures)) ∙ sym (masked-h (c .before .first-byte .result)) ∙ c .if1 .taken))
+
+returns-2 : tie.Need-returns-2
+returns-2 c =
+    sym (one (c .before .before .before .args .run .now)
+    (λ e. c .if1 .left (masked-h (c .before .first-byte .result) ∙ ap bitH (c .before .first-byte .ensures) ∙ e)))
+
+pub header-size-spec : {M : Type 1} → statement M
+header-size-spec = tie.close (tie.spec first-byte-requires returns returns-2)

@@ -1,0 +1,25 @@
+-- The three calls are the three parts of the definition.
+use mathlib.Core.Path.{ap, _∙_}
+use Rattle.frame.specs.Header.{messageType, responseKind, kindOf}
+use borrow.Author.Needs.{needs}
+use Rattle.frame.proofs.header.kind_of.Statement.{statement}
+use Rattle.frame.proofs.header.kind_of.Tie as tie
+
+first-byte-requires : tie.Need-first-byte-requires
+first-byte-requires c κs = search needs
+
+message-type-requires : tie.Need-message-type-requires
+message-type-requires c κs = search needs
+
+response-kind-requires : tie.Need-response-kind-requires
+response-kind-requires c κs = search needs
+
+returns : tie.Need-returns
+unfolding kindOf
+returns c =
+    c .response-kind .ensures
+    ∙ ap responseKind (c .before .message-type .ensures ∙ ap messageType (c .before .before .first-byte .ensures))
+
+pub kind-of-spec : {M : Type 1} → statement M
+kind-of-spec =
+    tie.close (tie.spec first-byte-requires message-type-requires response-kind-requires returns)
