@@ -4,3 +4,4 @@ pub mod CheckByteLaws
 pub mod HeaderLaws
 pub mod FrameLaws
 pub mod ReaderLaws
+pub mod WriterLaws

@@ -15,7 +15,7 @@ use Rattle.frame.specs.CheckByte.{isSealed}
 use Rattle.frame.specs.Header.{headerSize, kindOf, kindNumber, isUnassigned, isChecked}
 use Rattle.frame.specs.Frame.{Outcome, refused, accepted, outcome, Parts, Rule, firstBroken, wrongCount}
 use Rattle.frame.specs.Reader.{answerSize, readRules, readRefusal, partsOf, readFrame, ResponseObeys, Obeys, Sizes, sizes}
-use Rattle.frame.proofs.FrameLaws.{kept, last-kept, none-broken}
+use Rattle.frame.proofs.FrameLaws.{kept, last-kept, none-broken, unrefused-is, refused-is}
 
 -- Rules 4 to 6 are kept exactly when the response is what its kind asks for.
 pub record ResponseKept (kind : ResponseKind) (response : List ℕ) : Type 0 where
@@ -71,11 +71,11 @@ unrefused first response o =
 
 pub read-accepts : (first response : List ℕ) → readRefusal first response ≡ 0 → readFrame first response ≡ accepted (partsOf first response)
 unfolding readFrame
-read-accepts first response e = rw e
+read-accepts first response e = unrefused-is (readRefusal first response) (partsOf first response) e
 
 pub read-refuses : (first response : List ℕ) → (readRefusal first response ≡ 0 → ⊥) → readFrame first response ≡ refused (readRefusal first response)
 unfolding readFrame
-read-refuses first response e = rw (ne-eqb (readRefusal first response) 0 e)
+read-refuses first response e = refused-is (readRefusal first response) (partsOf first response) e
 
 pub answer-size-le : (kind : ResponseKind) (n : ℕ) → answerSize kind n ≤ n
 unfolding answerSize

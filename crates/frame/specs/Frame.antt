@@ -54,4 +54,4 @@ wrongCount Unassigned n = false
 
 -- A part of a list written over from a place on; all else stays.
 unfoldable pub placed : List ℕ → ℕ → List ℕ → List ℕ
-placed out at u = take at out ++ (u ++ drop (at + length u) out)
+placed out at u = take at out ++ u ++ drop (at + length u) out

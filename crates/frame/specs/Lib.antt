@@ -2,5 +2,4 @@ pub mod CheckByte
 pub mod Header
 pub mod Frame
 pub mod Reader
-
--- pub mod Writer
+pub mod Writer

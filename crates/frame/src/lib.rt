@@ -2,4 +2,4 @@
 pub mod check_byte;
 pub mod header;
 pub mod reader;
-// pub mod writer;
+pub mod writer;

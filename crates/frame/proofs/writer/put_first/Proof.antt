@@ -1,0 +1,42 @@
+-- Header and data are placed one behind the other, and the check byte seals them.
+use mathlib.Core.List.{_++_}
+use native.Mathlib.Omega.{arith}
+use lib.ListN.{length-append}
+use Rattle.frame.proofs.CheckByteLaws.{length-sealed}
+use Rattle.frame.proofs.WriterLaws.{joined, sealed-behind}
+use borrow.Author.Needs.{needs}
+use Rattle.frame.proofs.writer.put_first.Statement.{statement}
+use Rattle.frame.proofs.writer.put_first.Tie as tie
+
+add-end : tie.Need-add-end
+add-end c = search needs
+
+put-requires : tie.Need-put-requires
+put-requires c κs = search needs
+
+put-requires-2 : tie.Need-put-requires-2
+put-requires-2 c κs = search needs
+
+seal-requires : tie.Need-seal-requires
+seal-requires c κs = search needs
+
+add-result : tie.Need-add-result
+add-result c = search needs
+
+same-length : tie.Need-same-length
+same-length c = search needs
+
+returns : tie.Need-returns
+returns c = (
+  sealed-behind (c .before .before .before .before .before .before .before .before .before .before .before .before .before .before .before .args .out .now) 0 ((c .before .before .before .before .before .before .before .before .before .before .before .before .before .before .before .args .header .now) ++ (c .before .before .before .before .before .before .before .before .before .before .before .before .before .before .before .args .body .now))
+      (joined (c .before .before .before .before .before .before .before .before .before .before .before .before .before .before .before .args .out .now) 0 (c .before .before .before .before .before .before .before .before .before .before .before .before .before .before .before .args .header .now) (c .before .before .before .before .before .before .before .before .before .before .before .before .before .before .before .args .body .now) (c .before .before .before .before .before .before .before .before .before .before .put .ensures) (c .before .before .before .before .before .before .put2 .ensures) (omega arith) (omega arith))
+      (c .before .before .seal .ensures)
+      (omega (arith, length-append (c .before .before .before .before .before .before .before .before .before .before .before .before .before .before .before .args .header .now) (c .before .before .before .before .before .before .before .before .before .before .before .before .before .before .before .args .body .now)))
+      (omega (arith, length-append (c .before .before .before .before .before .before .before .before .before .before .before .before .before .before .before .args .header .now) (c .before .before .before .before .before .before .before .before .before .before .before .before .before .before .before .args .body .now))),
+  omega (arith, length-append (c .before .before .before .before .before .before .before .before .before .before .before .before .before .before .before .args .header .now) (c .before .before .before .before .before .before .before .before .before .before .before .before .before .before .before .args .body .now), length-sealed ((c .before .before .before .before .before .before .before .before .before .before .before .before .before .before .before .args .header .now) ++ (c .before .before .before .before .before .before .before .before .before .before .before .before .before .before .before .args .body .now))),
+)
+
+pub put-first-spec : {M : Type 1} → statement M
+put-first-spec =
+    tie.close
+    (tie.spec add-end put-requires put-requires-2 seal-requires add-result same-length returns)

@@ -1,0 +1,53 @@
+-- Writing a frame: document 01, refusals 7, 4, 5, 1, 8 in that order.
+use Prim.Native.Nat.{ℕ, _+_}
+use mathlib.Core.Bool.{Bool, not}
+use mathlib.Core.List.{List, [], _∷_, _++_}
+use lib.Dec.{ltb, eqb}
+use lib.ListN.{length}
+use Rattle.frame.specs.declared.writer.Writing.{Writing}
+use Rattle.frame.specs.declared.writer.Writing.the-variants.{Refused, Written}
+use Rattle.frame.specs.CheckByte.{sealed}
+use Rattle.frame.specs.Header.{headerSize, kindOf, isUnassigned}
+use Rattle.frame.specs.Frame.{Outcome, refused, accepted, outcome, Frame, Rule, firstBroken, answered, wrongCount, placed}
+
+-- The frame of some parts: check bytes join the first run and a kind 3 response.
+unfoldable pub frameOf : List ℕ → List ℕ → List ℕ → Frame
+frameOf header body answer = record { first = sealed (header ++ body); response = answered (kindOf header) answer }
+
+abbrev pub frameSize : Frame → ℕ
+frameSize f = length (f .first) + length (f .response)
+
+-- The writer's rules in their order, for `room` bytes of lent output. The length that H says is 1 or 3.
+unfoldable pub writeRules : List ℕ → List ℕ → List ℕ → ℕ → List Rule
+writeRules header body answer room =
+    record { number = 7; broken = not (eqb (length header) (headerSize header)) }
+    ∷ record { number = 4; broken = isUnassigned (kindOf header) }
+    ∷ record { number = 5; broken = wrongCount (kindOf header) (length answer) }
+    ∷ record { number = 1; broken = ltb 12 (frameSize (frameOf header body answer)) }
+    ∷ record { number = 8; broken = ltb room (frameSize (frameOf header body answer)) }
+    ∷ []
+
+unfoldable pub writeRefusal : List ℕ → List ℕ → List ℕ → ℕ → ℕ
+writeRefusal header body answer room = firstBroken (writeRules header body answer room)
+
+unfoldable pub writeFrame : List ℕ → List ℕ → List ℕ → ℕ → Outcome Frame
+writeFrame header body answer room = outcome (writeRefusal header body answer room) (frameOf header body answer)
+
+-- Lent output afterwards: the first run, then the response, at its start; refused, as it was.
+abbrev pub outAfter : Outcome Frame → List ℕ → List ℕ
+outAfter (refused n) out = out
+outAfter (accepted f) out = placed out 0 (f .first ++ f .response)
+
+-- What is handed over of a written frame: the length of each run.
+pub record Runs : Type 0 where
+  pub first : ℕ
+  pub response : ℕ
+
+abbrev pub runs : Outcome Frame → Outcome Runs
+runs (refused n) = refused n
+runs (accepted f) = accepted (record { first = length (f .first); response = length (f .response) })
+
+-- The number and the values of each case of the writer's enum.
+abbrev pub writingOf : Writing → Outcome Runs
+writingOf (Refused n) = refused n
+writingOf (Written f r) = accepted (record { first = f; response = r })
