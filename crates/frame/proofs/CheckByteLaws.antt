@@ -115,6 +115,10 @@ front-sealed : (s : List ℕ) → take (length (sealed s) - 1) (sealed s) ≡ s
 unfolding sealed
 front-sealed s = take-at s (checkByte s ∷ []) (length (sealed s) - 1) (omega (arith, length-sealed s))
 
+pub taken-sealed : (s : List ℕ) → take (length s) (sealed s) ≡ s
+unfolding sealed
+taken-sealed s = take-at s (checkByte s ∷ []) (length s) refl
+
 last-sealed : (s : List ℕ) → getD (sealed s) (length (sealed s) - 1) 0 ≡ checkByte s
 unfolding sealed
 last-sealed s = getD-at s (checkByte s) [] 0 (length (sealed s) - 1) (omega (arith, length-sealed s))

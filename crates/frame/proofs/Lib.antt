@@ -5,3 +5,4 @@ pub mod HeaderLaws
 pub mod FrameLaws
 pub mod ReaderLaws
 pub mod WriterLaws
+pub mod RoundTrip

@@ -1,5 +1,5 @@
 -- Laws of reading.
-use mathlib.Core.Path.{_≡_, refl, sym, ap, _∙_}
+use mathlib.Core.Path.{_≡_, refl, sym, ap, _∙_, subst}
 use mathlib.Core.Logic.{_↔_}
 use mathlib.Core.Bool.{Bool, true, false, not, _&&_, cond, true≢false}
 use mathlib.Core.List.{List, [], _∷_}
@@ -15,6 +15,8 @@ use Rattle.frame.specs.CheckByte.{isSealed}
 use Rattle.frame.specs.Header.{headerSize, kindOf, kindNumber, isUnassigned, isChecked}
 use Rattle.frame.specs.Frame.{Outcome, refused, accepted, outcome, Parts, Rule, firstBroken, wrongCount}
 use Rattle.frame.specs.Reader.{answerSize, readRules, readRefusal, partsOf, readFrame, ResponseObeys, Obeys, Sizes, sizes}
+use Rattle.frame.proofs.Bytes.{cases}
+use Rattle.frame.proofs.HeaderLaws.{header-range}
 use Rattle.frame.proofs.FrameLaws.{kept, last-kept, none-broken, unrefused-is, refused-is}
 
 -- Rules 4 to 6 are kept exactly when the response is what its kind asks for.
@@ -86,17 +88,16 @@ answer-size-le Data n = omega arith
 answer-size-le Unassigned n = omega arith
 
 -- What an accepted frame hands over: no part is longer than what it is cut from.
-pub accepted-sizes :
-    (first response : List ℕ)
-    → Obeys first response
-    → sizes (accepted (partsOf first response))
-    ≡ accepted
-    (record {
+abbrev pub given : List ℕ → List ℕ → Sizes
+given first response =
+    record {
       header = headerSize first;
       body = length first - (headerSize first + 1);
       kind = kindNumber (kindOf first);
       answer = answerSize (kindOf first) (length response);
-    })
+    }
+
+pub accepted-sizes : (first response : List ℕ) → Obeys first response → sizes (accepted (partsOf first response)) ≡ accepted (given first response)
 unfolding partsOf
 accepted-sizes first response o =
     rw (
@@ -110,3 +111,46 @@ accepted-sizes first response o =
           response
           (answer-size-le (kindOf first) (length response)),
     )
+
+-- The sizes that are handed over lie within the two runs, and these within twelve bytes.
+pub record Handed (first response : List ℕ) (s : Sizes) : Type 0 where
+  pub header : (1 ≤ s .header) × (s .header ≤ 3)
+  pub body : s .header + s .body + 1 ≡ length first
+  pub kind : s .kind ≤ 3
+  pub answer : s .answer ≤ length response
+  pub twelve : length first + length response ≤ 12
+
+kind-le : (kind : ResponseKind) → isUnassigned kind ≡ false → kindNumber kind ≤ 3
+kind-le Empty e = omega arith
+kind-le Single e = omega arith
+kind-le Several e = omega arith
+kind-le Data e = omega arith
+kind-le Unassigned e = absurd (true≢false e)
+
+given-handed : (first response : List ℕ) → Obeys first response → Handed first response (given first response)
+given-handed first response o =
+    record {
+      header = header-range first;
+      body = omega (arith, o .long);
+      kind = kind-le (kindOf first) (response-kept (kindOf first) response (o .answer) .assigned);
+      answer = answer-size-le (kindOf first) (length response);
+      twelve = o .twelve;
+    }
+
+pub handed : (first response : List ℕ) (s : Sizes) → sizes (readFrame first response) ≡ accepted s → Handed first response s
+handed first response s e =
+    cases (eqb (readRefusal first response) 0) (λ t. yes (eqb-true _ _ t)) (λ f. absurd (no (eqb-false (readRefusal first response) 0 f)))
+  where
+    yes : readRefusal first response ≡ 0 → Handed first response s
+    yes z =
+        let o = obeys first response z in
+        let told : accepted (given first response) ≡ accepted s =
+        sym (accepted-sizes first response o) ∙ ap sizes (sym (read-accepts first response z)) ∙ e in
+        let same : given first response ≡ s = cc in
+        subst (Handed first response) same (given-handed first response o)
+
+    no : (readRefusal first response ≡ 0 → ⊥) → ⊥
+    no n =
+        let f : refused (readRefusal first response) ≡ accepted s = ap sizes (sym (read-refuses first response n)) ∙ e in
+        let z : _≡_ {A = ℕ} 0 1 = cc in
+        omega arith

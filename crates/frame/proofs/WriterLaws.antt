@@ -1,19 +1,19 @@
 -- Laws of writing: memory that is written over, the size of a frame, and the writer's rules.
-use mathlib.Core.Path.{_≡_, refl, sym, ap, _∙_}
+use mathlib.Core.Path.{_≡_, refl, sym, ap, _∙_, subst}
 use mathlib.Core.Bool.{Bool, true, false, cond, not}
 use mathlib.Core.List.{List, [], _∷_, _++_, append-assoc}
 use Prim.Native.Nat.{ℕ, suc, _+_, _-_, _≤_, _<_}
 use native.Mathlib.Omega.{arith}
 use native.Mathlib.Numerals.{add-one}
-use borrow.Author.Tests.{lt-ltb, le-ltb, ltb-false, eq-eqb, eqb-true, not-false}
-use lib.Dec.{ltb, lit<}
+use borrow.Author.Tests.{lt-ltb, le-ltb, ltb-false, eq-eqb, eqb-true, eqb-false, not-false}
+use lib.Dec.{ltb, eqb, lit<}
 use lib.ListN.{length, take, drop, set, length-append, length-drop}
 use lib.Seq.{paste, length-paste, take-paste, drop-paste, take-length, length-take-le, take-at, drop-at, set-split, append-snoc, drop-drop}
 use Rattle.frame.specs.declared.header.ResponseKind.{ResponseKind}
 use Rattle.frame.specs.CheckByte.{checkByte, sealed}
 use Rattle.frame.specs.Header.{isChecked, isUnassigned, headerSize, kindOf}
 use Rattle.frame.specs.Frame.{Outcome, refused, accepted, Frame, answered, wrongCount, placed}
-use Rattle.frame.specs.Writer.{frameOf, frameSize, writeRules, writeRefusal, writeFrame}
+use Rattle.frame.specs.Writer.{frameOf, frameSize, writeRules, writeRefusal, writeFrame, Runs, runs}
 use Rattle.frame.proofs.FrameLaws.{kept, last-kept, none-broken, unrefused-is, refused-is}
 use Rattle.frame.proofs.Bytes.{cases}
 use Rattle.frame.proofs.CheckByteLaws.{length-sealed}
@@ -77,6 +77,10 @@ size-checked h d a e = omega (arith, frame-size h d a, rw e at (length-answered 
 
 pub size-plain : (h d a : List ℕ) → isChecked (kindOf h) ≡ false → frameSize (frameOf h d a) ≡ length h + length d + 1 + length a
 size-plain h d a e = omega (arith, frame-size h d a, rw e at (length-answered (kindOf h) a))
+
+pub frame-total : (h d a : List ℕ) → frameSize (frameOf h d a) ≡ length h + length d + length a + cond (isChecked (kindOf h)) 2 1
+frame-total h d a =
+    cases (isChecked (kindOf h)) (λ e. rw e (omega (arith, size-checked h d a e))) (λ e. rw e (omega (arith, size-plain h d a e)))
 
 frame-longer : (h d a : List ℕ) → length d + length a ≤ frameSize (frameOf h d a)
 frame-longer h d a =
@@ -168,3 +172,24 @@ pub write-refuses :
     → writeFrame header body answer room ≡ refused (writeRefusal header body answer room)
 unfolding writeFrame
 write-refuses header body answer room e = refused-is (writeRefusal header body answer room) (frameOf header body answer) e
+
+-- The two runs that are handed over lie within twelve bytes and within the lent room.
+pub handed : (h d a : List ℕ) (room : ℕ) (r : Runs) → runs (writeFrame h d a room) ≡ accepted r → (r .first + r .response ≤ 12) × (r .first + r .response ≤ room)
+handed h d a room r e =
+    cases (eqb (writeRefusal h d a room) 0) (λ t. yes (eqb-true _ _ t)) (λ f. absurd (no (eqb-false (writeRefusal h d a room) 0 f)))
+  where
+    sizes : Runs
+    sizes = record { first = length (frameOf h d a .first); response = length (frameOf h d a .response) }
+
+    yes : writeRefusal h d a room ≡ 0 → (r .first + r .response ≤ 12) × (r .first + r .response ≤ room)
+    yes z =
+        let w = writes h d a room z in
+        let told : accepted sizes ≡ accepted r = ap runs (sym (write-accepts h d a room z)) ∙ e in
+        let same : sizes ≡ r = cc in
+        subst (λ (q : Runs). (q .first + q .response ≤ 12) × (q .first + q .response ≤ room)) same (w .twelve, w .fits)
+
+    no : (writeRefusal h d a room ≡ 0 → ⊥) → ⊥
+    no n =
+        let f : refused (writeRefusal h d a room) ≡ accepted r = ap runs (sym (write-refuses h d a room n)) ∙ e in
+        let z : _≡_ {A = ℕ} 0 1 = cc in
+        omega arith

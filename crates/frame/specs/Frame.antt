@@ -55,3 +55,12 @@ wrongCount Unassigned n = false
 -- A part of a list written over from a place on; all else stays.
 unfoldable pub placed : List ℕ → ℕ → List ℕ → List ℕ
 placed out at u = take at out ++ u ++ drop (at + length u) out
+
+-- Document 000's limits on data and response data together, for one header byte and for three: sections 5.1 and 5.2.1.5.
+-- It prints none for an unassigned type.
+abbrev pub limit : ResponseKind → ℕ → ℕ
+limit Empty n = cond (eqb n 1) 10 8
+limit Single n = cond (eqb n 1) 10 8
+limit Several n = cond (eqb n 1) 10 8
+limit Data n = cond (eqb n 1) 9 7
+limit Unassigned n = cond (eqb n 1) 10 8

@@ -33,7 +33,7 @@ pub fn check_byte(run: &[u8]) -> u8
 }
 
 // Whether a run ends in the check byte of what stands before it.
-pub fn is_sealed(run: &[u8]) -> bool
+pub(crate) fn is_sealed(run: &[u8]) -> bool
     ensures { λ r. ⌜ r ≡ isSealed (now (run .entry)) ⌝ }
 {
     let n = run.len();

@@ -21,14 +21,14 @@ fn first_byte(run: &[u8]) -> u8
     if run.len() == 0 { 0 } else { run[0] }
 }
 
-pub fn message_type(b: u8) -> u8
+pub(crate) fn message_type(b: u8) -> u8
     ensures { λ r. ⌜ r ≡ messageType b ⌝ }
 {
     b & 0x0F
 }
 
 // How many header bytes H asks for.
-pub fn header_size(run: &[u8]) -> usize
+pub(crate) fn header_size(run: &[u8]) -> usize
     ensures { λ r. ⌜ r ≡ headerSize (now (run .entry)) ⌝ }
 {
     let b = first_byte(run);
@@ -36,7 +36,7 @@ pub fn header_size(run: &[u8]) -> usize
 }
 
 // All sixteen types, one by one; no other number is a type.
-pub fn response_kind(t: u8) -> ResponseKind
+pub(crate) fn response_kind(t: u8) -> ResponseKind
     ensures { λ r. ⌜ r ≡ responseKind t ⌝ }
 {
     match t {
@@ -60,13 +60,13 @@ pub fn response_kind(t: u8) -> ResponseKind
     }
 }
 
-pub fn kind_of(run: &[u8]) -> ResponseKind
+pub(crate) fn kind_of(run: &[u8]) -> ResponseKind
     ensures { λ r. ⌜ r ≡ kindOf (now (run .entry)) ⌝ }
 {
     response_kind(message_type(first_byte(run)))
 }
 
-pub fn kind_number(kind: ResponseKind) -> u8
+pub(crate) fn kind_number(kind: ResponseKind) -> u8
     ensures { λ r. ⌜ r ≡ kindNumber kind ⌝ }
 {
     match kind {
