@@ -1,6 +1,6 @@
 -- What a reader and a writer answer, and the rules that both test.
 use Prim.Native.Nat.{ℕ, _+_}
-use mathlib.Core.Bool.{Bool, true, false, cond, not}
+use mathlib.Core.Bool.{Bool, false, cond, not}
 use mathlib.Core.List.{List, [], _∷_, _++_}
 use lib.Dec.{ltb, eqb}
 use lib.ListN.{length, take, drop}
@@ -56,11 +56,6 @@ wrongCount Unassigned n = false
 unfoldable pub placed : List ℕ → ℕ → List ℕ → List ℕ
 placed out at u = take at out ++ u ++ drop (at + length u) out
 
--- Document 000's limits on data and response data together, for one header byte and for three: sections 5.1 and 5.2.1.5.
--- It prints none for an unassigned type.
+-- Document 000's limits on data and response data together, by header bytes: sections 5.1 and 5.2.1.5. Kind 3 has one byte less.
 abbrev pub limit : ResponseKind → ℕ → ℕ
-limit Empty n = cond (eqb n 1) 10 8
-limit Single n = cond (eqb n 1) 10 8
-limit Several n = cond (eqb n 1) 10 8
-limit Data n = cond (eqb n 1) 9 7
-limit Unassigned n = cond (eqb n 1) 10 8
+limit kind n = cond (isChecked kind) (cond (eqb n 1) 9 7) (cond (eqb n 1) 10 8)

@@ -1,6 +1,6 @@
 -- The first byte: document 01, "The frame", first and fourth rule; the header byte of document 002.
 use Prim.Native.Nat.{ℕ, _/_, _%_}
-use mathlib.Core.Bool.{Bool, true, false, cond}
+use mathlib.Core.Bool.{Bool, cond}
 use mathlib.Core.List.{List, [], _∷_}
 use lib.Dec.{eqb}
 use lib.ListN.{getD}
@@ -34,7 +34,7 @@ responseKind t = getD typeTable t Unassigned
 unfoldable pub kindOf : List ℕ → ResponseKind
 kindOf first = responseKind (messageType (getD first 0 0))
 
--- The paper's number of each kind. An unassigned type has none and is refused (4); the 4 here is shown nowhere.
+-- The paper's number of each kind. An unassigned type has no kind; the 4 tells it apart and is handed over nowhere.
 abbrev pub kindNumber : ResponseKind → ℕ
 kindNumber Empty = 0
 kindNumber Single = 1
@@ -43,16 +43,8 @@ kindNumber Data = 3
 kindNumber Unassigned = 4
 
 abbrev pub isUnassigned : ResponseKind → Bool
-isUnassigned Empty = false
-isUnassigned Single = false
-isUnassigned Several = false
-isUnassigned Data = false
-isUnassigned Unassigned = true
+isUnassigned kind = eqb (kindNumber kind) 4
 
 -- Only a kind 3 response has a check byte of its own.
 abbrev pub isChecked : ResponseKind → Bool
-isChecked Empty = false
-isChecked Single = false
-isChecked Several = false
-isChecked Data = true
-isChecked Unassigned = false
+isChecked kind = eqb (kindNumber kind) 3

@@ -81,25 +81,13 @@ pub(crate) fn kind_number(kind: ResponseKind) -> u8
 pub(crate) fn is_unassigned(kind: ResponseKind) -> bool
     ensures { λ r. ⌜ r ≡ isUnassigned kind ⌝ }
 {
-    match kind {
-        ResponseKind::Empty => false,
-        ResponseKind::Single => false,
-        ResponseKind::Several => false,
-        ResponseKind::Data => false,
-        ResponseKind::Unassigned => true,
-    }
+    kind_number(kind) == 4
 }
 
 pub(crate) fn is_checked(kind: ResponseKind) -> bool
     ensures { λ r. ⌜ r ≡ isChecked kind ⌝ }
 {
-    match kind {
-        ResponseKind::Empty => false,
-        ResponseKind::Single => false,
-        ResponseKind::Several => false,
-        ResponseKind::Data => true,
-        ResponseKind::Unassigned => false,
-    }
+    kind_number(kind) == 3
 }
 
 // Whether a response of n bytes without check byte has the wrong count for its kind.

@@ -1,0 +1,15 @@
+-- The number that each exported call answers: the refusal in its low byte, 0 for none, and what was accepted above it.
+use Prim.Native.Nat.{ℕ, _+_, _*_, _^_}
+use Rattle.frame.specs.Frame.{Outcome, refused, accepted}
+use Rattle.frame.specs.Reader.{Sizes}
+use Rattle.frame.specs.Writer.{Runs}
+
+-- Byte 1 the header's length, byte 2 that of the data, byte 3 the response kind, byte 4 the response's length without check byte.
+abbrev pub readWord : Outcome Sizes → ℕ
+readWord (refused n) = n
+readWord (accepted s) = s .header * 2 ^ 8 + s .body * 2 ^ 16 + s .kind * 2 ^ 24 + s .answer * 2 ^ 32
+
+-- Byte 1 the length of the first run, byte 2 that of the response.
+abbrev pub writeWord : Outcome Runs → ℕ
+writeWord (refused n) = n
+writeWord (accepted r) = r .first * 2 ^ 8 + r .response * 2 ^ 16

@@ -1,0 +1,50 @@
+// The exported calls: numbers and byte slices in, one number out. include/rakhubole.h says them in words.
+use frame::reader::Reading;
+use frame::reader::read_frame;
+use frame::writer::Writing;
+use frame::writer::write_frame;
+ghost use mathlib.Core.Path.{_≡_};
+ghost use lib.ListN.{length};
+ghost use Rattle.frame.specs.Reader.{readFrame, sizes};
+ghost use Rattle.frame.specs.Writer.{writeFrame, runs, outAfter};
+ghost use Rattle.c_api.specs.Words.{readWord, writeWord};
+
+// Reads a frame given as its two runs.
+#[no_mangle]
+pub extern "C" fn rakhubole_j1850_read(first: &[u8], response: &[u8]) -> u64
+    ensures { λ r. ⌜ r ≡ readWord (sizes (readFrame (now (first .entry)) (now (response .entry)))) ⌝ }
+{
+    let reading = read_frame(first, response);
+    match reading {
+        Reading::Refused(n) => n as u64,
+        Reading::Accepted {
+            header,
+            body,
+            kind,
+            answer,
+        } => {
+            header as u64 * 0x100
+                + body as u64 * 0x1_0000
+                + kind as u64 * 0x100_0000
+                + answer as u64 * 0x1_0000_0000
+        }
+    }
+}
+
+// Writes a frame from its parts: the first run and then the response at the start of `out`.
+#[no_mangle]
+pub extern "C" fn rakhubole_j1850_write(
+    header: &[u8],
+    body: &[u8],
+    answer: &[u8],
+    out: &mut [u8],
+) -> u64
+    ensures told { λ r. ⌜ r ≡ writeWord (runs (writeFrame (now (header .entry)) (now (body .entry)) (now (answer .entry)) (length (now (out .entry))))) ⌝ }
+    ensures left { λ r. ⌜ now (out .exit) ≡ outAfter (writeFrame (now (header .entry)) (now (body .entry)) (now (answer .entry)) (length (now (out .entry)))) (now (out .entry)) ⌝ }
+{
+    let writing = write_frame(header, body, answer, out);
+    match writing {
+        Writing::Refused(n) => n as u64,
+        Writing::Written { first, response } => first as u64 * 0x100 + response as u64 * 0x1_0000,
+    }
+}

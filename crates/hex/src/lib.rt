@@ -1,0 +1,40 @@
+// Hexadecimal text to bytes, for the programs that read vector files.
+ghost use mathlib.Core.Path.{_≡_};
+ghost use lib.ListN.{getD};
+ghost use Rattle.hex.specs.Digits.{digitValue, byteAt};
+
+// A digit's value; 0 for any other character.
+pub fn digit_value(c: u8) -> u8
+    ensures { λ r. ⌜ r ≡ digitValue c ⌝ }
+{
+    if c < b'0' {
+        return 0;
+    }
+    if c < b'0' + 10 {
+        return c - b'0';
+    }
+    if c < b'A' {
+        return 0;
+    }
+    if c < b'A' + 6 {
+        return c - b'A' + 10;
+    }
+    0
+}
+
+fn char_at(text: &[u8], at: usize) -> u8
+    ensures { λ r. ⌜ r ≡ getD (now (text .entry)) at 0 ⌝ }
+{
+    if at < text.len() { text[at] } else { 0 }
+}
+
+// The byte whose two digits stand at a place.
+pub fn byte_at(text: &[u8], at: usize) -> u8
+    ensures { λ r. ⌜ r ≡ byteAt (now (text .entry)) at ⌝ }
+{
+    let high = digit_value(char_at(text, at));
+    if text.len() <= at {
+        return 0;
+    }
+    high * 16 + digit_value(char_at(text, at + 1))
+}

@@ -1,0 +1,85 @@
+/* rakhubole.h: frames of SAE J1850 with consolidated headers.
+ *
+ * Every call takes byte runs and numbers, answers one uint64_t, and keeps
+ * nothing between calls. It answers for all input and asks no check of its
+ * caller, except what C itself asks of a pointer:
+ *
+ *   - a run of n bytes is a pointer and n; a NULL pointer with length 0 is an
+ *     empty run;
+ *   - input runs and `out` do not overlap.
+ *
+ * The low byte of the answer is the refusal, 0 for none. A refused call leaves
+ * each byte of `out` as it was, and the bits above the refusal are zero.
+ */
+#ifndef RAKHUBOLE_H
+#define RAKHUBOLE_H
+
+#include <stddef.h>
+#include <stdint.h>
+
+#ifdef __cplusplus
+extern "C" {
+#endif
+
+/* The refusal in an answer, 0 for none. */
+#define RAKHUBOLE_REFUSAL(answer) ((unsigned)((answer) & 0xFF))
+
+/* The refusals. The reader tests 1 to 6 in that order, the writer 7, 4, 5, 1,
+ * 8; the first that applies is given. */
+enum {
+    /* more than 12 bytes in all, both runs and their check bytes counted */
+    RAKHUBOLE_OVER_TWELVE_BYTES = 1,
+    /* the first run is empty, or shorter than its header and check byte */
+    RAKHUBOLE_FIRST_RUN_SHORT = 2,
+    /* the check byte of the first run is wrong */
+    RAKHUBOLE_CHECK_BYTE_WRONG = 3,
+    /* bit K is 0 and the message type has no response kind (5, 6 or 7) */
+    RAKHUBOLE_TYPE_UNASSIGNED = 4,
+    /* the response has the wrong number of bytes for its kind */
+    RAKHUBOLE_RESPONSE_COUNT_WRONG = 5,
+    /* the check byte of a kind 3 response is wrong */
+    RAKHUBOLE_RESPONSE_CHECK_BYTE_WRONG = 6,
+    /* writer: the header is not 1 or 3 bytes, or not as long as bit H says */
+    RAKHUBOLE_HEADER_LENGTH_WRONG = 7,
+    /* `out` is shorter than the result */
+    RAKHUBOLE_OUT_TOO_SHORT = 8
+};
+
+/* Reads a frame: the run before EOD (header, data, check byte) and the
+ * response after it, which may be empty.
+ *
+ * Accepted: byte 1 of the answer is the length of the header (1 or 3), byte 2
+ * that of the data, byte 3 the response kind (0 to 3), byte 4 the length of
+ * the response without its check byte. The parts stand in the runs that were
+ * lent: the header at the start of `first`, the data behind it, the response
+ * at the start of `response`.
+ */
+uint64_t rakhubole_j1850_read(const uint8_t *first, size_t first_length,
+                              const uint8_t *response, size_t response_length);
+
+#define RAKHUBOLE_READ_HEADER(answer) ((size_t)((answer) >> 8 & 0xFF))
+#define RAKHUBOLE_READ_DATA(answer) ((size_t)((answer) >> 16 & 0xFF))
+#define RAKHUBOLE_READ_KIND(answer) ((unsigned)((answer) >> 24 & 0xFF))
+#define RAKHUBOLE_READ_RESPONSE(answer) ((size_t)((answer) >> 32 & 0xFF))
+
+/* Writes a frame from header, data and response, all without check bytes: the
+ * first run and right behind it the response, at the start of `out`. Twelve
+ * bytes are always enough.
+ *
+ * Accepted: byte 1 of the answer is the length of the first run, byte 2 that
+ * of the response, both with their check bytes. No byte of `out` beyond them
+ * is touched.
+ */
+uint64_t rakhubole_j1850_write(const uint8_t *header, size_t header_length,
+                               const uint8_t *data, size_t data_length,
+                               const uint8_t *response, size_t response_length,
+                               uint8_t *out, size_t out_length);
+
+#define RAKHUBOLE_WRITE_FIRST(answer) ((size_t)((answer) >> 8 & 0xFF))
+#define RAKHUBOLE_WRITE_RESPONSE(answer) ((size_t)((answer) >> 16 & 0xFF))
+
+#ifdef __cplusplus
+}
+#endif
+
+#endif
