@@ -1,0 +1,177 @@
+//! Random cases for reader and writer: about half accepted, and every
+//! refusal often.
+
+use crate::frame::case::FrameCase;
+use crate::frame::check_byte::check_byte;
+use crate::frame::draft::Draft;
+use crate::frame::header::{header_length, response_kind};
+use crate::frame::MOST_BYTES;
+use crate::random::Random;
+
+/// Now and then a run is up to this long.
+const LONG: usize = 300;
+/// Seldom a run is a little longer than this.
+const VERY_LONG: usize = 65_536;
+
+pub fn case(random: &mut Random) -> FrameCase {
+    if random.once_in(2) {
+        read_case(random)
+    } else {
+        write_case(random)
+    }
+}
+
+fn read_case(random: &mut Random) -> FrameCase {
+    let mut draft = Draft::random(random);
+    if random.once_in(4) {
+        spoil_parts(&mut draft, random);
+    }
+    let mut runs = draft.runs();
+    match random.below(20) {
+        0..=5 => spoil_runs(&mut runs, random),
+        6 => {
+            spoil_runs(&mut runs, random);
+            spoil_runs(&mut runs, random);
+        }
+        7 => runs = (random_run(random), random_run(random)),
+        _ => {}
+    }
+    FrameCase::read(runs)
+}
+
+fn write_case(random: &mut Random) -> FrameCase {
+    let mut draft = Draft::random(random);
+    match random.below(20) {
+        0..=5 => spoil_parts(&mut draft, random),
+        6 => {
+            spoil_parts(&mut draft, random);
+            spoil_parts(&mut draft, random);
+        }
+        7 => {
+            let (header, data, response) =
+                (random_run(random), random_run(random), random_run(random));
+            draft = Draft {
+                header,
+                data,
+                response,
+            };
+        }
+        _ => {}
+    }
+    let out_length = out_length(draft.length(), random);
+    FrameCase::write(draft, out_length)
+}
+
+/// One in five below the need, the rest at it or above.
+fn out_length(need: usize, random: &mut Random) -> usize {
+    match random.below(10) {
+        0 => need - 1,
+        1 => random.below(need),
+        2..=4 => need,
+        5 => need + 1,
+        _ => need + random.below(24),
+    }
+}
+
+/// A run of random bytes, seldom long.
+fn random_run(random: &mut Random) -> Vec<u8> {
+    let length = match random.below(1000) {
+        0 => VERY_LONG + random.below(15),
+        1..=50 => random.below(LONG + 1),
+        _ => random.below(15),
+    };
+    random.bytes(length)
+}
+
+/// One fault in the parts: type, count of the response, length or header.
+fn spoil_parts(draft: &mut Draft, random: &mut Random) {
+    match random.below(5) {
+        0 => draft.response = few_bytes(random),
+        1 => {
+            let wrong = random.pick(&[0, 1, 2, 3, 3, 4, 5]);
+            draft.header.resize(wrong, 0x6B);
+        }
+        2 if !draft.header.is_empty() => draft.header[0] = unassigned(draft.header[0], random),
+        2 | 3 => lengthen(&mut draft.data, draft.header.len(), random),
+        _ => lengthen(
+            &mut draft.response,
+            draft.header.len() + draft.data.len(),
+            random,
+        ),
+    }
+}
+
+fn few_bytes(random: &mut Random) -> Vec<u8> {
+    let length = random.below(4);
+    random.bytes(length)
+}
+
+fn unassigned(first_byte: u8, random: &mut Random) -> u8 {
+    first_byte & 0xF0 | random.pick(&[5, 6, 7])
+}
+
+/// Makes the frame a little longer than it may be, or exactly as long, or
+/// now and then much longer.
+fn lengthen(run: &mut Vec<u8>, others: usize, random: &mut Random) {
+    let length = match random.below(1000) {
+        0 => VERY_LONG + random.below(15),
+        1..=50 => random.below(LONG + 1),
+        _ => (MOST_BYTES + random.below(4)).saturating_sub(others + 1),
+    };
+    let added = random.bytes(length.saturating_sub(run.len()));
+    run.extend(added);
+}
+
+/// One fault in the runs: a bit, a byte, the place of EOD, the end of a run,
+/// or the response's check byte.
+fn spoil_runs(runs: &mut (Vec<u8>, Vec<u8>), random: &mut Random) {
+    match random.below(8) {
+        0 => flip_bit(&mut runs.0, random),
+        1 => flip_bit(&mut runs.1, random),
+        2 => move_end_of_data(runs, random),
+        3 => runs.0.truncate(random.below(4)),
+        4 => runs.1.truncate(random.below(3)),
+        5 => std::mem::swap(&mut runs.0, &mut runs.1),
+        6 => set_bare_header(runs, random),
+        _ => set_check_over_frame(runs, random),
+    }
+}
+
+fn flip_bit(run: &mut [u8], random: &mut Random) {
+    if !run.is_empty() {
+        let place = random.below(run.len());
+        run[place] ^= 1 << random.below(8);
+    }
+}
+
+fn move_end_of_data(runs: &mut (Vec<u8>, Vec<u8>), random: &mut Random) {
+    let mut whole = [&runs.0[..], &runs.1].concat();
+    let response = whole.split_off(random.below(whole.len() + 1));
+    *runs = (whole, response);
+}
+
+/// Leaves the header alone, without a check byte.
+fn set_bare_header(runs: &mut (Vec<u8>, Vec<u8>), random: &mut Random) {
+    if let Some(first_byte) = runs.0.first() {
+        let length = header_length(*first_byte);
+        runs.0.resize(length, random.byte());
+    }
+}
+
+/// The check byte of a kind 3 response over what comes before it too.
+fn set_check_over_frame(runs: &mut (Vec<u8>, Vec<u8>), random: &mut Random) {
+    let (first, response) = (&runs.0, &mut runs.1);
+    let is_kind_3 = first
+        .first()
+        .is_some_and(|byte| response_kind(*byte) == Some(3));
+    if !is_kind_3 || response.is_empty() {
+        return flip_bit(response, random);
+    }
+    let data = response.len() - 1;
+    let before = if random.once_in(2) {
+        first.len()
+    } else {
+        first.len() - 1
+    };
+    response[data] = check_byte(&[&first[..before], &response[..data]].concat());
+}

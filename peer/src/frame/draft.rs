@@ -1,0 +1,164 @@
+//! Drafts of frames, from which cases are made.
+
+use super::check_byte::checked;
+use super::header::{header_length, kind_of_run, response_kind};
+use super::writer::{first_run, response_run, result_length, Request};
+use super::MOST_BYTES;
+use crate::random::Random;
+
+/// A frame's parts without check bytes. A draft need not be acceptable.
+#[derive(Clone, Debug)]
+pub struct Draft {
+    pub header: Vec<u8>,
+    pub data: Vec<u8>,
+    pub response: Vec<u8>,
+}
+
+impl Draft {
+    /// An acceptable frame; each kind and form is as likely as another, and
+    /// one in four is filled up to twelve bytes.
+    pub fn random(random: &mut Random) -> Draft {
+        let priority = random.byte() & 0xE0;
+        let first_byte = random.pick(&FIRST_BYTES[..8]) & 0x1F | priority;
+        Draft::random_of(another_type(first_byte, random), random)
+    }
+
+    /// An acceptable frame with this first byte, if its type is assigned.
+    pub fn random_of(first_byte: u8, random: &mut Random) -> Draft {
+        let kind = response_kind(first_byte);
+        let room = room(first_byte);
+        let response_length = match kind {
+            Some(1) => 1,
+            Some(2) | Some(3) => random.between(1, room),
+            _ => 0,
+        };
+        let rest = room - response_length;
+        let data_length = if random.once_in(4) {
+            rest
+        } else {
+            random.between(0, rest)
+        };
+        Draft::of_lengths(first_byte, data_length, response_length, random)
+    }
+
+    /// The header that H asks for, and data and response of these lengths.
+    pub fn of_lengths(first_byte: u8, data: usize, response: usize, random: &mut Random) -> Draft {
+        Draft {
+            header: starting_with(first_byte, header_length(first_byte), random),
+            data: random.bytes(data),
+            response: random.bytes(response),
+        }
+    }
+
+    /// `bytes` as header and data, with the shortest response that fits.
+    pub fn around(bytes: &[u8], random: &mut Random) -> Draft {
+        let (header, data) = bytes.split_at(header_length(bytes[0]));
+        let shortest = usize::from(kind_of_run(bytes) != Some(0));
+        Draft {
+            header: header.to_vec(),
+            data: data.to_vec(),
+            response: random.bytes(shortest),
+        }
+    }
+
+    pub fn request(&self, out_length: usize) -> Request<'_> {
+        let Draft {
+            header,
+            data,
+            response,
+        } = self;
+        Request {
+            header,
+            data,
+            response,
+            out_length,
+        }
+    }
+
+    /// The length of both runs together, check bytes included.
+    pub fn length(&self) -> usize {
+        result_length(&self.request(0))
+    }
+
+    /// Both runs with their check bytes.
+    pub fn runs(&self) -> (Vec<u8>, Vec<u8>) {
+        let kind = kind_of_run(&self.header);
+        (
+            first_run(&self.header, &self.data),
+            response_run(kind, &self.response),
+        )
+    }
+}
+
+/// One first byte for each kind and form, then two unassigned ones.
+pub const FIRST_BYTES: [u8; 10] = [0x48, 0x81, 0x22, 0x63, 0xB8, 0x74, 0x10, 0xD3, 0xA5, 0x37];
+
+/// How many data and response bytes a frame can have between them.
+pub fn room(first_byte: u8) -> usize {
+    let check_bytes = if response_kind(first_byte) == Some(3) {
+        2
+    } else {
+        1
+    };
+    MOST_BYTES - header_length(first_byte) - check_bytes
+}
+
+/// The same first byte, or one of another type with the same kind.
+fn another_type(first_byte: u8, random: &mut Random) -> u8 {
+    let types: Vec<u8> = (0..16).collect();
+    let same_kind = |number: &u8| response_kind(*number) == response_kind(first_byte);
+    let choices: Vec<u8> = types.into_iter().filter(same_kind).collect();
+    first_byte & 0xF0 | random.pick(&choices)
+}
+
+/// `length` bytes of which the first, if there is one, is `first_byte`.
+pub fn starting_with(first_byte: u8, length: usize, random: &mut Random) -> Vec<u8> {
+    let mut run = random.bytes(length);
+    if let Some(first) = run.first_mut() {
+        *first = first_byte;
+    }
+    run
+}
+
+/// A first run of `length` bytes, with a right check byte if it has two.
+pub fn first_run_of(first_byte: u8, length: usize, random: &mut Random) -> Vec<u8> {
+    match length {
+        0 | 1 => starting_with(first_byte, length, random),
+        _ => checked(&starting_with(first_byte, length - 1, random)),
+    }
+}
+
+/// A response of `length` bytes, with a right check byte if its kind has one.
+pub fn response_of(first_byte: u8, length: usize, random: &mut Random) -> Vec<u8> {
+    match (response_kind(first_byte), length) {
+        (Some(3), 1..) => checked(&random.bytes(length - 1)),
+        _ => random.bytes(length),
+    }
+}
+
+#[cfg(test)]
+mod tests {
+    use super::*;
+    use crate::frame::reader;
+
+    #[test]
+    fn first_bytes_have_every_kind_and_form() {
+        for (place, first_byte) in FIRST_BYTES.iter().enumerate().take(8) {
+            assert_eq!(response_kind(*first_byte), Some(place as u8 % 4));
+            assert_eq!(header_length(*first_byte), if place < 4 { 3 } else { 1 });
+        }
+        assert_eq!((response_kind(0xA5), header_length(0xA5)), (None, 3));
+        assert_eq!((response_kind(0x37), header_length(0x37)), (None, 1));
+    }
+
+    #[test]
+    fn random_drafts_are_acceptable() {
+        let mut random = Random::new(10);
+        for _ in 0..5000 {
+            let draft = Draft::random(&mut random);
+            let (first, response) = draft.runs();
+            assert_eq!(reader::refusals(&first, &response), []);
+            assert_eq!(draft.length(), first.len() + response.len());
+        }
+    }
+}

@@ -1,0 +1,70 @@
+//! The SAE tables: the PRNs and SLOTs that J2178-2 prints.
+
+pub mod form;
+mod prns;
+mod slots;
+pub mod source;
+
+pub use prns::PRNS;
+pub use slots::SLOTS;
+
+/// Where a PRN's item is described: the SLOT of this form, width and number.
+#[derive(Clone, Copy, Debug, PartialEq)]
+pub struct Prn {
+    pub prn: u16,
+    pub form: u8,
+    pub width: u8,
+    pub number: u16,
+}
+
+impl Prn {
+    pub const fn new(prn: u16, form: u8, width: u8, number: u16) -> Prn {
+        Prn {
+            prn,
+            form,
+            width,
+            number,
+        }
+    }
+}
+
+/// A value is (N x multiplier + offset) / divisor. The limits are patterns of
+/// 32 bits; for SNM they are in two's complement.
+#[derive(Clone, Copy, Debug, PartialEq)]
+pub struct Slot {
+    pub form: u8,
+    pub width: u8,
+    pub number: u16,
+    pub multiplier: u16,
+    pub divisor: u16,
+    pub offset: i32,
+    pub lowest: u32,
+    pub highest: u32,
+}
+
+impl Slot {
+    pub fn key(&self) -> (u8, u8, u16) {
+        (self.form, self.width, self.number)
+    }
+}
+
+pub fn has_prn(prn: u16) -> bool {
+    PRNS.binary_search_by_key(&prn, |row| row.prn).is_ok()
+}
+
+pub fn has_slot(key: (u8, u8, u16)) -> bool {
+    SLOTS.binary_search_by_key(&key, Slot::key).is_ok()
+}
+
+/// The largest raw number of `width` bits, at most FFFFFFFFh.
+pub const fn all_ones(width: u8) -> u32 {
+    if width >= 32 {
+        u32::MAX
+    } else {
+        (1 << width) - 1
+    }
+}
+
+#[cfg(test)]
+#[path = "sae/sae_tests.rs"]
+mod tests;

@@ -1,0 +1,197 @@
+//! Drafts of records and supplements, from which cases are made.
+
+use super::kind::{self, KINDS, LAYOUT, PLACES, PRN, SLOT};
+use super::layout::Layout;
+use crate::random::Random;
+use crate::sae::form::SNM;
+use crate::sae::{has_prn, has_slot, Prn, Slot};
+use std::collections::HashSet;
+
+/// A record's bytes, kind byte first. A record need not be acceptable.
+pub type Bytes = Vec<u8>;
+
+pub fn slot_record(slot: &Slot) -> Bytes {
+    let mut bytes = vec![SLOT, slot.form, slot.width];
+    bytes.extend(slot.number.to_be_bytes());
+    bytes.extend(slot.multiplier.to_be_bytes());
+    bytes.extend(slot.divisor.to_be_bytes());
+    bytes.extend(slot.offset.to_be_bytes());
+    bytes.extend(slot.lowest.to_be_bytes());
+    bytes.extend(slot.highest.to_be_bytes());
+    bytes
+}
+
+pub fn prn_record(prn: &Prn) -> Bytes {
+    let mut bytes = vec![PRN];
+    bytes.extend(prn.prn.to_be_bytes());
+    bytes.extend([prn.form, prn.width]);
+    bytes.extend(prn.number.to_be_bytes());
+    bytes
+}
+
+pub fn layout_record(layout: &Layout) -> Bytes {
+    let mut bytes = vec![LAYOUT, layout.first_byte, layout.target];
+    bytes.extend([layout.present, layout.selector, layout.count]);
+    bytes.extend(layout.prns.iter().flat_map(|prn| prn.to_be_bytes()));
+    bytes
+}
+
+/// An acceptable SLOT whose key is not in the SAE tables.
+pub fn random_slot(random: &mut Random) -> Slot {
+    let form = random.between(1, 9) as u8;
+    let limits = [random_limit(random), random_limit(random)];
+    let mut slot = Slot {
+        form,
+        width: random.between(1, 64) as u8,
+        number: random_number(random),
+        multiplier: random_number(random),
+        divisor: random_number(random).max(1),
+        offset: random.number() as i32 >> random.below(32),
+        lowest: limits[0].min(limits[1]),
+        highest: limits[0].max(limits[1]),
+    };
+    if form == SNM && slot.lowest as i32 > slot.highest as i32 {
+        (slot.lowest, slot.highest) = (slot.highest, slot.lowest);
+    }
+    while has_slot(slot.key()) {
+        slot.number = random_number(random);
+    }
+    slot
+}
+
+/// Small as often as not.
+fn random_number(random: &mut Random) -> u16 {
+    let number = random.number() as u16;
+    if random.once_in(2) {
+        number % 300
+    } else {
+        number
+    }
+}
+
+/// Now and then one where the order as signed is another.
+fn random_limit(random: &mut Random) -> u32 {
+    let number = random.number() as u32;
+    match random.below(4) {
+        0 => random.pick(&[0, 1, 0x7FFF_FFFF, 0x8000_0000, 0xFFFF_FFFF]),
+        1 => number % 256,
+        _ => number,
+    }
+}
+
+/// An acceptable PRN that is not in the SAE tables.
+pub fn random_prn(random: &mut Random) -> Prn {
+    let mut prn = random.number() as u16;
+    while has_prn(prn) {
+        prn = random.number() as u16;
+    }
+    let (form, width) = (random.between(1, 9) as u8, random.between(1, 64) as u8);
+    Prn::new(prn, form, width, random_number(random))
+}
+
+/// An acceptable layout.
+pub fn random_layout(random: &mut Random) -> Layout {
+    let with_h = random.once_in(2);
+    let byte = random.byte();
+    let present = random.below(2) as u8;
+    let key = [
+        if with_h { byte | 0x10 } else { byte & 0x0F },
+        if with_h { 0 } else { random.byte() },
+        present,
+        if present == 1 { random.byte() } else { 0 },
+    ];
+    let count = random.between(0, PLACES);
+    let prns: Vec<u16> = (0..count).map(|_| random.number() as u16).collect();
+    Layout::of_key(key).with_prns(&prns)
+}
+
+/// An acceptable record of this kind.
+pub fn random_record(kind: u8, random: &mut Random) -> Bytes {
+    match kind {
+        SLOT => slot_record(&random_slot(random)),
+        PRN => prn_record(&random_prn(random)),
+        _ => layout_record(&random_layout(random)),
+    }
+}
+
+pub fn random_kind(random: &mut Random) -> u8 {
+    random.pick(&[SLOT, PRN, LAYOUT])
+}
+
+/// Acceptable records of these kinds, no key twice.
+pub fn distinct(kinds: &[u8], random: &mut Random) -> Vec<Bytes> {
+    let mut keys = HashSet::new();
+    let mut list = Vec::new();
+    for kind in kinds {
+        let mut record = random_record(*kind, random);
+        while !keys.insert(key_of(&record).to_vec()) {
+            record = random_record(*kind, random);
+        }
+        list.push(record);
+    }
+    list
+}
+
+/// Kind byte and key of a whole record.
+pub fn key_of(record: &[u8]) -> &[u8] {
+    let kind = kind::of_byte(&KINDS, record[0]).expect("a known kind");
+    &record[..1 + kind.key]
+}
+
+/// Kinds whose records have `length` bytes together, in random order; at
+/// least 228 bytes. A layout has 38, the others 7 and three times 7.
+pub fn kinds_of_length(length: usize, layouts: Layouts, random: &mut Random) -> Vec<u8> {
+    let mut count = (0..7).find(|count| 38 * count % 7 == length % 7).unwrap();
+    if layouts == Layouts::Many {
+        count += 7 * ((length - 38 * count) / (38 * 7));
+    }
+    let mut sevens = (length - 38 * count) / 7;
+    let mut kinds = vec![LAYOUT; count];
+    while sevens > 0 {
+        let is_slot = sevens >= 3 && random.once_in(2);
+        kinds.push(if is_slot { SLOT } else { PRN });
+        sevens -= if is_slot { 3 } else { 1 };
+    }
+    shuffle(&mut kinds, random);
+    kinds
+}
+
+#[derive(Clone, Copy, PartialEq)]
+pub enum Layouts {
+    Few,
+    Many,
+}
+
+pub fn shuffle<T>(list: &mut [T], random: &mut Random) {
+    for last in (1..list.len()).rev() {
+        list.swap(last, random.below(last + 1));
+    }
+}
+
+#[cfg(test)]
+mod tests {
+    use super::*;
+    use crate::supplement::answer;
+
+    #[test]
+    fn random_records_are_acceptable() {
+        let mut random = Random::new(21);
+        for _ in 0..3000 {
+            let kinds: Vec<u8> = (0..6).map(|_| random_kind(&mut random)).collect();
+            let records = distinct(&kinds, &mut random);
+            assert_eq!(answer(&records.concat()), 0, "{records:?}");
+        }
+    }
+
+    #[test]
+    fn lengths_are_met() {
+        let mut random = Random::new(22);
+        for length in (228..500).chain([16_383, 16_384, 16_385]) {
+            for layouts in [Layouts::Few, Layouts::Many] {
+                let kinds = kinds_of_length(length, layouts, &mut random);
+                let supplement = distinct(&kinds, &mut random).concat();
+                assert_eq!(supplement.len(), length);
+            }
+        }
+    }
+}

@@ -1,0 +1,247 @@
+use super::draft::{distinct, layout_record, prn_record, slot_record};
+use super::kind::{LAYOUT, PRN, SLOT};
+use super::layout::Layout;
+use super::*;
+use crate::random::Random;
+use crate::sae::form::*;
+use crate::sae::{Prn, Slot, PRNS, SLOTS};
+
+const OWN_SLOT: Slot = Slot {
+    form: UNM,
+    width: 8,
+    number: 1000,
+    multiplier: 1,
+    divisor: 1,
+    offset: -40,
+    lowest: 0,
+    highest: 255,
+};
+
+const OWN_PRN: Prn = Prn::new(0x1234, UNM, 8, 1000);
+
+/// The layout of the whole report among the bench cases.
+fn bench_layout() -> Layout {
+    Layout::of_key([0x08, 0x6B, 1, 0x41]).with_prns(&[0x1025, 0x100B])
+}
+
+fn three_records() -> Vec<u8> {
+    [
+        slot_record(&OWN_SLOT),
+        prn_record(&OWN_PRN),
+        layout_record(&bench_layout()),
+    ]
+    .concat()
+}
+
+#[test]
+fn accepted() {
+    assert_eq!(answer(&[]), 0);
+    assert_eq!(three_records().len(), 21 + 7 + 38);
+    assert_eq!(answer(&three_records()), 0);
+    let bench = layout_record(&bench_layout());
+    assert_eq!(
+        bench[..10],
+        [3, 8, 0x6B, 1, 0x41, 2, 0x10, 0x25, 0x10, 0x0B]
+    );
+    assert_eq!(answer(&bench), 0);
+}
+
+#[test]
+fn sizes() {
+    assert_eq!(answer(&[0; 16_385]), 10);
+    assert_eq!(answer(&[0; 16_384]), 11);
+    assert_eq!(answer(&vec![2; 70_000]), 10);
+}
+
+#[test]
+fn unknown_kinds() {
+    for byte in [0, 4, 5, 0x80, 0xFF] {
+        let first = [&[byte], &three_records()[..]].concat();
+        assert_eq!(answer(&first), 11);
+        let last = [&three_records()[..], &[byte]].concat();
+        assert_eq!(answer(&last), refused_answer(11, 66));
+    }
+}
+
+#[test]
+fn cuts() {
+    let whole = three_records();
+    for length in 0..whole.len() {
+        let expected = match length {
+            0 | 21 | 28 => 0,
+            1..=20 => 12,
+            22..=27 => refused_answer(12, 21),
+            _ => refused_answer(12, 28),
+        };
+        assert_eq!(answer(&whole[..length]), expected, "{length}");
+    }
+}
+
+fn slot_answer(change: fn(&mut Slot)) -> u64 {
+    let mut slot = OWN_SLOT;
+    change(&mut slot);
+    answer(&slot_record(&slot))
+}
+
+#[test]
+fn ranges_of_a_slot() {
+    assert_eq!(slot_answer(|slot| slot.form = 0), 13);
+    assert_eq!(slot_answer(|slot| slot.form = 9), 0);
+    assert_eq!(slot_answer(|slot| slot.form = 10), 13);
+    assert_eq!(slot_answer(|slot| slot.width = 0), 13);
+    assert_eq!(slot_answer(|slot| slot.width = 64), 0);
+    assert_eq!(slot_answer(|slot| slot.width = 65), 13);
+    assert_eq!(slot_answer(|slot| slot.divisor = 0), 13);
+    assert_eq!(slot_answer(|slot| slot.divisor = 0x100), 0);
+    assert_eq!(slot_answer(|slot| slot.multiplier = 0), 0);
+}
+
+#[test]
+fn limits_of_a_slot() {
+    for (lowest, highest, unsigned, signed) in [
+        (0, 0, 0, 0),
+        (1, 0, 13, 13),
+        (0x7FFF_FFFF, 0x8000_0000, 0, 13),
+        (0x8000_0000, 0x7FFF_FFFF, 13, 0),
+        (0xFFFF_FF80, 0x7F, 13, 0),
+        (0xFFFF_FFFF, 0xFFFF_FFFE, 13, 13),
+    ] {
+        for form in 1..=9 {
+            let slot = Slot {
+                form,
+                lowest,
+                highest,
+                ..OWN_SLOT
+            };
+            let expected = if form == SNM { signed } else { unsigned };
+            assert_eq!(answer(&slot_record(&slot)), expected, "{slot:X?}");
+        }
+    }
+}
+
+#[test]
+fn ranges_of_a_prn() {
+    for (form, width, expected) in [
+        (0, 8, 13),
+        (1, 1, 0),
+        (9, 64, 0),
+        (10, 8, 13),
+        (1, 0, 13),
+        (1, 65, 13),
+    ] {
+        let prn = Prn::new(0x1234, form, width, 0);
+        assert_eq!(answer(&prn_record(&prn)), expected, "{prn:?}");
+    }
+}
+
+#[test]
+fn ranges_of_a_layouts_key() {
+    for (key, expected) in [
+        ([0x08, 0x6B, 1, 0x41], 0),
+        ([0x28, 0x6B, 1, 0x41], 13),
+        ([0x88, 0x6B, 1, 0x41], 13),
+        ([0xF8, 0x00, 1, 0x41], 0),
+        ([0x18, 0x01, 1, 0x41], 13),
+        ([0x08, 0x6B, 0, 0], 0),
+        ([0x08, 0x6B, 0, 1], 13),
+        ([0x08, 0x6B, 1, 0], 0),
+        ([0x08, 0x6B, 2, 0], 13),
+    ] {
+        let layout = Layout::of_key(key);
+        assert_eq!(answer(&layout_record(&layout)), expected, "{key:X?}");
+    }
+}
+
+#[test]
+fn ranges_of_a_layouts_prns() {
+    for count in 0..=17 {
+        for place in 0..16 {
+            let mut layout = Layout {
+                count,
+                ..bench_layout()
+            };
+            layout.prns = [0; 16];
+            layout.prns[place] = 0x0100;
+            let is_unused = place >= usize::from(count);
+            let expected = if is_unused || count > 16 { 13 } else { 0 };
+            assert_eq!(answer(&layout_record(&layout)), expected);
+        }
+    }
+}
+
+#[test]
+fn keys_seen_before() {
+    let mut slot = OWN_SLOT;
+    slot.multiplier = 7;
+    let again = [three_records(), slot_record(&slot)].concat();
+    assert_eq!(answer(&again), refused_answer(14, 66));
+    let prn = Prn::new(OWN_PRN.prn, BCD, 4, 1);
+    let again = [three_records(), prn_record(&prn)].concat();
+    assert_eq!(answer(&again), refused_answer(14, 66));
+    let layout = bench_layout().with_prns(&[]);
+    let again = [three_records(), layout_record(&layout)].concat();
+    assert_eq!(answer(&again), refused_answer(14, 66));
+}
+
+#[test]
+fn one_key_under_several_kinds() {
+    let slot = Slot {
+        number: 0x0105,
+        ..OWN_SLOT
+    };
+    let records = [
+        slot_record(&slot),
+        prn_record(&Prn::new(0x0108, UNM, 8, 1)),
+        layout_record(&Layout::of_key([1, 8, 1, 5])),
+    ];
+    assert_eq!(answer(&records.concat()), 0);
+}
+
+#[test]
+fn keys_in_the_sae_tables() {
+    for row in PRNS {
+        let prn = Prn::new(row.prn, BMM, 3, 4);
+        assert_eq!(answer(&prn_record(&prn)), 15);
+    }
+    for row in SLOTS {
+        assert_eq!(answer(&slot_record(row)), 15);
+    }
+    let packet = Slot {
+        form: PKT,
+        width: 8,
+        number: 1,
+        ..OWN_SLOT
+    };
+    assert_eq!(answer(&slot_record(&packet)), 0);
+    assert_eq!(answer(&layout_record(&Layout::of_key([0, 0x0B, 0, 0]))), 0);
+}
+
+#[test]
+fn lowest_number_of_the_first_faulty_record() {
+    let mut bad = OWN_SLOT;
+    bad.divisor = 0;
+    let bad_again = [slot_record(&OWN_SLOT), slot_record(&bad)].concat();
+    assert_eq!(answer(&bad_again), refused_answer(13, 21));
+    let bad_sae = prn_record(&Prn::new(0x1025, 0, 8, 101));
+    assert_eq!(answer(&bad_sae), 13);
+    let sae = prn_record(&Prn::new(0x1025, UNM, 8, 101));
+    let sae_first = [&sae[..], &slot_record(&bad), &[0]].concat();
+    assert_eq!(answer(&sae_first), 15);
+    let cut_sae = [&slot_record(&OWN_SLOT)[..], &sae[..6]].concat();
+    assert_eq!(answer(&cut_sae), refused_answer(12, 21));
+}
+
+#[test]
+fn the_walk_goes_on_after_a_fault() {
+    let mut random = Random::new(23);
+    let records = distinct(&[SLOT, PRN, LAYOUT], &mut random);
+    let twice = [records.concat(), records.concat(), vec![9, 1, 2]].concat();
+    let walk: Vec<walk::Record> = walk::Walk::new(&KINDS, &twice).collect();
+    let places: Vec<usize> = walk.iter().map(|record| record.place).collect();
+    assert_eq!(places, [0, 21, 28, 66, 87, 94, 132]);
+    let refusals: Vec<Vec<u8>> = walk.into_iter().map(|record| record.refusals).collect();
+    let none = Vec::new();
+    let seen = vec![14];
+    let expected = [&none, &none, &none, &seen, &seen, &seen, &vec![11]];
+    assert!(refusals.iter().eq(expected));
+}

@@ -1,0 +1,69 @@
+//! Vector files: one case a line, and one line of expected output for each.
+
+pub mod frame;
+mod frame_coverage;
+mod frame_reads;
+mod frame_writes;
+pub mod supplement;
+mod supplement_classes;
+mod supplement_coverage;
+mod supplement_keys;
+mod supplement_places;
+mod supplement_ranges;
+pub mod tables;
+
+use std::collections::HashSet;
+use std::path::Path;
+use std::{fs, io};
+
+/// The two files of a folder; a case that is already there is not added.
+#[derive(Default)]
+pub struct Files {
+    stdin: String,
+    stdout: String,
+    seen: HashSet<String>,
+}
+
+impl Files {
+    /// Expected output that needs no cases.
+    pub fn listing(stdout: String) -> Files {
+        Files {
+            stdout,
+            ..Files::default()
+        }
+    }
+
+    /// True if the case is new.
+    pub fn add(&mut self, case: String, expected: &str) -> bool {
+        let new = !self.seen.contains(&case);
+        if new {
+            self.stdin.push_str(&case);
+            // the programs that run the cases print digits in lower case
+            self.stdout.push_str(&expected.to_lowercase());
+            self.seen.insert(case);
+        }
+        new
+    }
+
+    /// The same, with the digits of the expected output as they are given.
+    pub fn add_as_given(&mut self, case: String, expected: &str) -> bool {
+        let new = self.seen.insert(case.clone());
+        if new {
+            self.stdin.push_str(&case);
+            self.stdout.push_str(expected);
+        }
+        new
+    }
+
+    pub fn cases(&self) -> usize {
+        self.seen.len()
+    }
+
+    pub fn write(&self, folder: &Path) -> io::Result<()> {
+        fs::create_dir_all(folder)?;
+        if !self.stdin.is_empty() {
+            fs::write(folder.join("stdin"), &self.stdin)?;
+        }
+        fs::write(folder.join("stdout"), &self.stdout)
+    }
+}

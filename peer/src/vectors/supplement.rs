@@ -1,0 +1,86 @@
+//! The vector files of the supplement's test.
+
+use super::supplement_coverage::Coverage;
+use super::{supplement_keys, supplement_places, supplement_ranges, Files};
+use crate::random::Random;
+use crate::supplement::answer;
+use crate::text::{hex, hex_answer};
+
+const SEED: u64 = 2178;
+
+/// The files, the counts, and the promised classes without a case.
+pub fn make() -> (Files, String, Vec<String>) {
+    let mut files = Files::default();
+    let mut coverage = Coverage::default();
+    for supplement in cases() {
+        let expected = hex_answer(answer(&supplement)) + "\n";
+        if files.add_as_given(case_line(&supplement), &expected) {
+            coverage.count(&supplement);
+        }
+    }
+    let summary = format!(
+        "supplement: {} cases; {}",
+        files.cases(),
+        coverage.summary()
+    );
+    (files, summary, coverage.missing())
+}
+
+fn cases() -> Vec<Vec<u8>> {
+    let mut random = Random::new(SEED);
+    let mut cases = supplement_places::cases(&mut random);
+    cases.extend(supplement_ranges::cases(&mut random));
+    cases.extend(supplement_keys::cases(&mut random));
+    cases
+}
+
+/// The length in four digits, then the bytes.
+fn case_line(supplement: &[u8]) -> String {
+    format!("{:04X} {}\n", supplement.len(), hex(supplement))
+}
+
+#[cfg(test)]
+mod tests {
+    use super::*;
+    use crate::supplement::mutants::mutants;
+
+    #[test]
+    fn lines() {
+        assert_eq!(case_line(&[]), "0000 \n");
+        assert_eq!(case_line(&[2, 0xAB]), "0002 02AB\n");
+        assert_eq!(case_line(&[0; 16_385]).len(), 4 + 1 + 2 * 16_385 + 1);
+        assert!(case_line(&[0; 16_385]).starts_with("4001 00"));
+    }
+
+    #[test]
+    fn files_are_whole_and_the_same_each_time() {
+        let (files, summary, missing) = make();
+        assert_eq!(missing, Vec::<String>::new());
+        assert!((2000..=4000).contains(&files.cases()), "{summary}");
+        assert!(files.stdin.len() < 1_500_000, "{}", files.stdin.len());
+        assert_eq!(files.stdin.lines().count(), files.cases());
+        assert_eq!(files.stdout.len(), 17 * files.cases());
+        let digits = [&files.stdin[..], &files.stdout].concat();
+        assert!(!digits.contains(char::is_lowercase));
+        let (again, _, _) = make();
+        assert!(again.stdin == files.stdin && again.stdout == files.stdout);
+    }
+
+    #[test]
+    fn deliberate_faults_are_noticed() {
+        let cases = cases();
+        for (name, mutant) in mutants() {
+            let is_noticed = cases.iter().any(|case| mutant(case) != answer(case));
+            assert!(is_noticed, "{name}");
+        }
+    }
+
+    #[test]
+    fn a_class_without_a_case_is_noticed() {
+        let mut coverage = Coverage::default();
+        coverage.count(&[]);
+        let missing = coverage.missing();
+        assert!(!missing.contains(&"answer: accepted".to_string()));
+        assert!(missing.contains(&"answer: refused 13".to_string()));
+    }
+}
