@@ -7,7 +7,10 @@ use lib.ListN.{getD}
 use Rattle.frame.specs.declared.header.ResponseKind.{ResponseKind}
 use Rattle.frame.specs.declared.header.ResponseKind.the-variants.{Empty, Single, Several, Data, Unassigned}
 
--- Bit 4, H, and bit 3, K.
+-- Bits 7 to 5, the priority; bit 4, H; bit 3, K.
+abbrev pub priority : ℕ → ℕ
+priority b = b / 32
+
 abbrev pub bitH : ℕ → ℕ
 bitH b = b / 16 % 2
 
