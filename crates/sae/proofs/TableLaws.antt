@@ -1,0 +1,248 @@
+-- Laws of the SAE tables: their rule by one computed test, and what it gives at each row.
+use mathlib.Core.Path.{_≡_, refl, sym, _∙_}
+use mathlib.Core.Bool.{true, _&&_, true≢false}
+use mathlib.Core.List.{List, map}
+use mathlib.Core.Option.{some}
+use Prim.Native.Nat.{ℕ, _^_, _≤_, _<_}
+use native.Mathlib.Omega.{arith}
+use borrow.Author.Tests.{leb-true, ltb-true, eqb-true, eq-eqb, ne-eqb}
+use lib.Dec.{eqb, leb, ltb}
+use lib.ListN.{length, getD, getElem?, List·getD-map}
+use Rattle.sae.specs.declared.sae.PrnRow.{PrnRow}
+use Rattle.sae.specs.declared.sae.SlotRow.{SlotRow}
+use Rattle.sae.specs.Rows.{prn, slot, inOrder, keyFits, prnFits, slotFits, prnSized, slotSized}
+use Rattle.sae.specs.Tables.{prnRows, slotRows}
+use Rattle.sae.specs.Search.{firstWhere, keyIs, every, rising}
+use Rattle.sae.specs.Sae.{prnIs, slotIs, saePrn, saeSlot, packed, prnKey, slotKey, tablesHold}
+use Rattle.frame.proofs.Bytes.{cases}
+use Rattle.sae.proofs.SearchLaws.{both, found-is, first-same, every-is, elem-at, by-key}
+
+-- The rule of both tables: document 01, "One statement over the whole table gives its order and ranges".
+pub tables-hold : tablesHold ≡ true
+unfolding tablesHold rising every prnFits slotFits prnSized slotSized keyFits inOrder prnRows slotRows
+tables-hold = refl
+
+-- Its parts.
+pub record Rule : Type 0 where
+  pub prn-rising : rising (map prnKey prnRows) ≡ true
+  pub slot-rising : rising (map slotKey slotRows) ≡ true
+  pub prn-fits : every prnFits prnRows ≡ true
+  pub slot-fits : every slotFits slotRows ≡ true
+  pub prn-sized : every prnSized prnRows ≡ true
+  pub slot-sized : every slotSized slotRows ≡ true
+
+pub rule : Rule
+unfolding tablesHold
+rule =
+    let five = both _ _ tables-hold in
+    let four = both _ _ (five .0) in
+    let three = both _ _ (four .0) in
+    let two = both _ _ (three .0) in
+    let one = both _ _ (two .0) in
+    record {
+      prn-rising = one .0;
+      slot-rising = one .1;
+      prn-fits = two .1;
+      slot-fits = three .1;
+      prn-sized = four .1;
+      slot-sized = five .1;
+    }
+
+-- The ranges of a row, one by one.
+pub record KeyRanges (form width : ℕ) : Type 0 where
+  pub form-least : 1 ≤ form
+  pub form-most : form ≤ 9
+  pub width-least : 1 ≤ width
+  pub width-most : width ≤ 64
+
+key-ranges : (f w : ℕ) → keyFits f w ≡ true → KeyRanges f w
+unfolding keyFits
+key-ranges f w e =
+    let t = both (leb 1 f && leb f 9) (leb 1 w && leb w 64) e in
+    let form = both (leb 1 f) (leb f 9) (t .0) in
+    let width = both (leb 1 w) (leb w 64) (t .1) in
+    record {
+      form-least = leb-true 1 f (form .0);
+      form-most = leb-true f 9 (form .1);
+      width-least = leb-true 1 w (width .0);
+      width-most = leb-true w 64 (width .1);
+    }
+
+pub prn-ranges : (r : PrnRow) → prnFits r ≡ true → KeyRanges (r .form) (r .width)
+unfolding prnFits
+prn-ranges r e = key-ranges (r .form) (r .width) e
+
+pub record SlotRanges (r : SlotRow) : Type 0 where
+  pub key : KeyRanges (r .form) (r .width)
+  pub divisor : 1 ≤ r .divisor
+  pub limits : inOrder (r .form) (r .lowest) (r .highest) ≡ true
+
+pub slot-ranges : (r : SlotRow) → slotFits r ≡ true → SlotRanges r
+unfolding slotFits
+slot-ranges r e =
+    let t = both (keyFits (r .form) (r .width) && leb 1 (r .divisor)) (inOrder (r .form) (r .lowest) (r .highest)) e in
+    let s = both (keyFits (r .form) (r .width)) (leb 1 (r .divisor)) (t .0) in
+    record { key = key-ranges (r .form) (r .width) (s .0); divisor = leb-true 1 (r .divisor) (s .1); limits = t .1 }
+
+pub record SlotSizes (r : SlotRow) : Type 0 where
+  pub number : r .number < 2 ^ 16
+  pub multiplier : r .multiplier < 2 ^ 16
+  pub divisor : r .divisor < 2 ^ 16
+  pub offset : r .offset < 2 ^ 32
+  pub lowest : r .lowest < 2 ^ 32
+  pub highest : r .highest < 2 ^ 32
+
+slot-sizes : (r : SlotRow) → slotSized r ≡ true → SlotSizes r
+unfolding slotSized
+slot-sizes r e =
+    let five = both _ _ e in
+    let four = both _ _ (five .0) in
+    let three = both _ _ (four .0) in
+    let two = both _ _ (three .0) in
+    let one = both _ _ (two .0) in
+    record {
+      number = ltb-true _ _ (one .0);
+      multiplier = ltb-true _ _ (one .1);
+      divisor = ltb-true _ _ (two .1);
+      offset = ltb-true _ _ (three .1);
+      lowest = ltb-true _ _ (four .1);
+      highest = ltb-true _ _ (five .1);
+    }
+
+-- What is found by a PRN has that PRN, its ranges and its sizes.
+pub sae-prn-fits : (p : ℕ) (row : PrnRow) → saePrn p ≡ some row → (row .prn ≡ p) × (prnFits row ≡ true) × (row .slot < 2 ^ 16)
+unfolding saePrn prnSized
+sae-prn-fits p row e =
+    let t = found-is (prnIs p) prnRows row e in (
+      eqb-true (row .prn) p (t .0),
+      every-is prnFits prnRows (rule .prn-fits) row (t .1),
+      ltb-true (row .slot) (2 ^ 16) (both (ltb (row .prn) (2 ^ 16)) (ltb (row .slot) (2 ^ 16)) (every-is prnSized prnRows (rule .prn-sized) row (t .1)) .1),
+    )
+
+-- What is found by form, width and number has them, its ranges and its sizes.
+pub record SlotTold (f w n : ℕ) (row : SlotRow) : Type 0 where
+  pub form : row .form ≡ f
+  pub width : row .width ≡ w
+  pub number : row .number ≡ n
+  pub fits : slotFits row ≡ true
+  pub sizes : SlotSizes row
+
+pub sae-slot-fits : (f w n : ℕ) (row : SlotRow) → saeSlot f w n ≡ some row → SlotTold f w n row
+unfolding saeSlot
+sae-slot-fits f w n row e =
+    let t = found-is (slotIs f w n) slotRows row e in
+    let two = both (eqb (row .form) f && eqb (row .width) w) (eqb (row .number) n) (t .0) in
+    let one = both (eqb (row .form) f) (eqb (row .width) w) (two .0) in
+    record {
+      form = eqb-true (row .form) f (one .0);
+      width = eqb-true (row .width) w (one .1);
+      number = eqb-true (row .number) n (two .1);
+      fits = every-is slotFits slotRows (rule .slot-fits) row (t .1);
+      sizes = slot-sizes row (every-is slotSized slotRows (rule .slot-sized) row (t .1));
+    }
+
+-- Packed keys are equal exactly when form, width and number are.
+packed-is :
+    (a b c f w n : ℕ)
+    → b < 256
+    → c < 65536
+    → w < 256
+    → n < 65536
+    → eqb (packed a b c) (packed f w n) ≡ (eqb a f && eqb b w && eqb c n)
+packed-is a b c f w n hb hc hw hn =
+    cases (eqb a f && eqb b w && eqb c n)
+    (λ t.
+    let two = both (eqb a f && eqb b w) (eqb c n) t in
+    let one = both (eqb a f) (eqb b w) (two .0) in
+    eq-eqb (packed a b c) (packed f w n)
+    (omega (arith, eqb-true a f (one .0), eqb-true b w (one .1), eqb-true c n (two .1)))
+    ∙ sym t)
+    (λ g.
+    ne-eqb (packed a b c) (packed f w n)
+    (λ e.
+    let af : a ≡ f = omega arith in
+    let bw : b ≡ w = omega arith in
+    let cn : c ≡ n = omega arith in
+    true≢false (sym (λ i. eqb-same af i && eqb-same bw i && eqb-same cn i) ∙ g))
+    ∙ sym g)
+  where
+    eqb-same : {x y : ℕ} → x ≡ y → eqb x y ≡ true
+    eqb-same {x} {y} e = eq-eqb x y e
+
+-- The place of a key among the keys is the place of the row.
+pub prn-placed :
+    (p place : ℕ)
+    → getElem? (map prnKey prnRows) place ≡ firstWhere (keyIs p) (map prnKey prnRows)
+    → getElem? prnRows place ≡ saePrn p
+unfolding saePrn
+prn-placed p place e = by-key prnKey prnRows p place (rule .prn-rising) e
+
+pub slot-placed :
+    (f w n place : ℕ)
+    → w < 256
+    → n < 65536
+    → getElem? (map slotKey slotRows) place ≡ firstWhere (keyIs (packed f w n)) (map slotKey slotRows)
+    → getElem? slotRows place ≡ saeSlot f w n
+unfolding saeSlot
+slot-placed f w n place hw hn e =
+    by-key slotKey slotRows (packed f w n) place (rule .slot-rising) e
+    ∙ first-same (λ r. keyIs (packed f w n) (slotKey r)) (slotIs f w n) slotRows
+    (λ r m.
+    let s = slot-sizes r (every-is slotSized slotRows (rule .slot-sized) r m) in
+    let t = slot-ranges r (every-is slotFits slotRows (rule .slot-fits) r m) in
+    packed-is (r .form) (r .width) (r .number) f w n (omega (arith, t .key .width-most)) (omega (arith, s .number)) hw hn)
+
+-- A column of a table at a place, as the code holds it.
+abbrev pub column : {A : Type 0} → (A → ℕ) → List A → ℕ → ℕ
+column field rows at = getD (map field rows) at 0
+
+-- The row at the place of a key: the key, and the columns there.
+pub prn-columns :
+    (p at : ℕ)
+    → at < length prnRows
+    → getElem? prnRows at ≡ saePrn p
+    → some
+    (prn p
+    (column (λ (r : PrnRow). r .form) prnRows at)
+    (column (λ (r : PrnRow). r .width) prnRows at)
+    (column (λ (r : PrnRow). r .slot) prnRows at))
+    ≡ saePrn p
+prn-columns p at h e =
+    let d : PrnRow = prn 0 0 0 0 in
+    let found = elem-at prnRows at d h in
+    let told = sae-prn-fits p (getD prnRows at d) (sym e ∙ found) in
+    (λ i.
+    some
+    (prn (sym (told .0) i)
+    (List·getD-map (λ (r : PrnRow). r .form) prnRows at d i)
+    (List·getD-map (λ (r : PrnRow). r .width) prnRows at d i)
+    (List·getD-map (λ (r : PrnRow). r .slot) prnRows at d i)))
+    ∙ sym found
+    ∙ e
+
+pub slot-columns :
+    (f w n at : ℕ)
+    → at < length slotRows
+    → getElem? slotRows at ≡ saeSlot f w n
+    → some
+    (slot f w n
+    (column (λ (r : SlotRow). r .multiplier) slotRows at)
+    (column (λ (r : SlotRow). r .divisor) slotRows at)
+    (column (λ (r : SlotRow). r .offset) slotRows at)
+    (column (λ (r : SlotRow). r .lowest) slotRows at)
+    (column (λ (r : SlotRow). r .highest) slotRows at))
+    ≡ saeSlot f w n
+slot-columns f w n at h e =
+    let d : SlotRow = slot 0 0 0 0 0 0 0 0 in
+    let found = elem-at slotRows at d h in
+    let told = sae-slot-fits f w n (getD slotRows at d) (sym e ∙ found) in
+    (λ i.
+    some
+    (slot (sym (told .form) i) (sym (told .width) i) (sym (told .number) i)
+    (List·getD-map (λ (r : SlotRow). r .multiplier) slotRows at d i)
+    (List·getD-map (λ (r : SlotRow). r .divisor) slotRows at d i)
+    (List·getD-map (λ (r : SlotRow). r .offset) slotRows at d i)
+    (List·getD-map (λ (r : SlotRow). r .lowest) slotRows at d i)
+    (List·getD-map (λ (r : SlotRow). r .highest) slotRows at d i)))
+    ∙ sym found
+    ∙ e
