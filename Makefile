@@ -5,9 +5,12 @@ PEER := build/peer/release
 CFLAGS := -std=c99 -O2 -Wall -Wextra -Wpedantic -Werror -Iinclude
 CARGO := CARGO_TARGET_DIR=$(CURDIR)/build/peer RAKHUBOLE_ARCHIVE_DIR=$(CURDIR)/target/staticlib cargo
 RANDOM_FRAMES := 1000000
+RANDOM_SUPPLEMENTS := 300000
 SEED := 1
+# Document 003 as text; where it is not at hand the tables are taken as committed.
+SOURCE := ../shared/003_c37128ede7d9c935.txt
 
-.PHONY: all archive demo test checks peer peer-tests vectors random-frames demo-test clean
+.PHONY: all archive demo test checks tables tables-check peer peer-tests vectors random demo-test clean
 
 all: archive
 
@@ -27,23 +30,37 @@ demo: build/demo
 test:
 	bash .ci/run
 
-checks: peer-tests vectors random-frames demo-test
+checks: tables-check peer-tests vectors random demo-test
+
+# The SAE tables of the code, of the definitions and of docs/SAE-TABLES.md, from document 003.
+tables:
+	tools/sae_tables.py $(SOURCE)
+
+tables-check:
+	@if [ -f $(SOURCE) ]; then \
+		tools/sae_tables.py $(SOURCE) --test && tools/sae_tables.py $(SOURCE) --check; \
+	else \
+		echo "tables-check: $(SOURCE) is not at hand; the tables stand as committed"; \
+	fi
 
 # The independent second program.
 peer: archive
-	cd peer && $(CARGO) build --offline --release --bins
+	cd peer && $(CARGO) build --offline --release --bins --features supplement
 
 peer-tests:
 	cd peer && $(CARGO) test --offline --release --lib
 
 # The vector files that are committed are those that the second program writes.
 vectors: peer
-	$(PEER)/vectors frame build/vectors/frame
-	cmp build/vectors/frame/stdin crates/frame_vectors/stdin
-	cmp build/vectors/frame/stdout crates/frame_vectors/stdout
+	$(PEER)/vectors frame build/vectors/frame_vectors
+	$(PEER)/vectors supplement build/vectors/supplement_vectors
+	$(PEER)/vectors tables build/vectors/sae_rows
+	for f in $$(cd build/vectors && find . -type f); do cmp build/vectors/$$f crates/$$f || exit 1; done
 
-random-frames: peer
+# Random cases through the archive, judged by the second program.
+random: peer
 	$(PEER)/compare frame $(RANDOM_FRAMES) $(SEED)
+	$(PEER)/compare supplement $(RANDOM_SUPPLEMENTS) $(SEED)
 
 demo-test: build/demo
 	build/demo > build/demo.out

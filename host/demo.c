@@ -1,4 +1,5 @@
-/* Reads and writes a few frames through the C interface and shows them. */
+/* Reads and writes a few frames and tests two supplements through the C
+ * interface, and shows them. */
 #include "rakhubole.h"
 
 #include <stdio.h>
@@ -14,6 +15,12 @@ static const char *refusal_in_words(unsigned refusal)
     case RAKHUBOLE_RESPONSE_CHECK_BYTE_WRONG: return "check byte of the response wrong";
     case RAKHUBOLE_HEADER_LENGTH_WRONG: return "header not as long as H says";
     case RAKHUBOLE_OUT_TOO_SHORT: return "lent output too short";
+    case RAKHUBOLE_SUPPLEMENT_TOO_LONG: return "more than 16,384 bytes";
+    case RAKHUBOLE_RECORD_KIND_UNKNOWN: return "unknown kind of record";
+    case RAKHUBOLE_RECORD_CUT: return "record cut by the end";
+    case RAKHUBOLE_FIELD_OUT_OF_RANGE: return "a field outside its range";
+    case RAKHUBOLE_KEY_TWICE: return "key already in an earlier record";
+    case RAKHUBOLE_KEY_IN_SAE: return "key already in the SAE tables";
     default: return "no such refusal";
     }
 }
@@ -66,6 +73,18 @@ static void write_and_show(const uint8_t *header, size_t h, const uint8_t *data,
     show_run("response", out + n, RAKHUBOLE_WRITE_RESPONSE(answer));
 }
 
+static void check_and_show(const uint8_t *supplement, size_t n)
+{
+    uint64_t answer = rakhubole_supplement_check(supplement, n);
+    printf("supplement of %zu bytes\n", n);
+    if (RAKHUBOLE_REFUSAL(answer) == 0) {
+        printf("  accepted\n");
+        return;
+    }
+    show_refusal(RAKHUBOLE_REFUSAL(answer));
+    printf("  at byte %zu\n", RAKHUBOLE_PLACE(answer));
+}
+
 int main(void)
 {
     /* a function status of the engine, no response allowed */
@@ -79,11 +98,16 @@ int main(void)
     static const uint8_t digits[] = {0x32, 0x33, 0x34, 0x35, 0x36, 0x37, 0x38, 0x39};
     static const uint8_t address[] = {0x10};
 
+    /* a maker's PRN with an SAE SLOT; then one that the SAE tables have */
+    static const uint8_t supplement[] = {2, 0xF0, 0x01, 1, 8, 0, 101, 2, 0x10, 0x25, 1, 8, 0, 101};
+
     read_and_show(status, sizeof status, NULL, 0);
     read_and_show(damaged, sizeof damaged, NULL, 0);
     write_and_show(request, sizeof request, NULL, 0, reading, sizeof reading);
     write_and_show(one_byte, sizeof one_byte, digits, sizeof digits, address, sizeof address);
     write_and_show(one_byte, sizeof one_byte, digits, sizeof digits, NULL, 0);
     write_and_show(request, 1, NULL, 0, reading, sizeof reading);
+    check_and_show(supplement, 7);
+    check_and_show(supplement, sizeof supplement);
     return 0;
 }

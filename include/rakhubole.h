@@ -1,4 +1,5 @@
-/* rakhubole.h: frames of SAE J1850 with consolidated headers.
+/* rakhubole.h: frames of SAE J1850 with consolidated headers, and the
+ * supplement of records that makers add to the SAE tables.
  *
  * Every call takes byte runs and numbers, answers one uint64_t, and keeps
  * nothing between calls. It answers for all input and asks no check of its
@@ -9,7 +10,8 @@
  *   - input runs and `out` do not overlap.
  *
  * The low byte of the answer is the refusal, 0 for none. A refused call leaves
- * each byte of `out` as it was, and the bits above the refusal are zero.
+ * each byte of `out` as it was, and the bits above the refusal are zero, but
+ * for the place of a fault in a supplement.
  */
 #ifndef RAKHUBOLE_H
 #define RAKHUBOLE_H
@@ -25,7 +27,8 @@ extern "C" {
 #define RAKHUBOLE_REFUSAL(answer) ((unsigned)((answer) & 0xFF))
 
 /* The refusals. The reader tests 1 to 6 in that order, the writer 7, 4, 5, 1,
- * 8; the first that applies is given. */
+ * 8; the first that applies is given. A supplement is refused with 10 or, at
+ * its first record with a fault, with the lowest of 11 to 15 that applies. */
 enum {
     /* more than 12 bytes in all, both runs and their check bytes counted */
     RAKHUBOLE_OVER_TWELVE_BYTES = 1,
@@ -42,7 +45,19 @@ enum {
     /* writer: the header is not 1 or 3 bytes, or not as long as bit H says */
     RAKHUBOLE_HEADER_LENGTH_WRONG = 7,
     /* `out` is shorter than the result */
-    RAKHUBOLE_OUT_TOO_SHORT = 8
+    RAKHUBOLE_OUT_TOO_SHORT = 8,
+    /* the supplement has more than 16,384 bytes */
+    RAKHUBOLE_SUPPLEMENT_TOO_LONG = 10,
+    /* a record's kind byte is not 1, 2 or 3 */
+    RAKHUBOLE_RECORD_KIND_UNKNOWN = 11,
+    /* the supplement ends within a record */
+    RAKHUBOLE_RECORD_CUT = 12,
+    /* a field of a record is outside its range */
+    RAKHUBOLE_FIELD_OUT_OF_RANGE = 13,
+    /* an earlier record of the same kind has the same key */
+    RAKHUBOLE_KEY_TWICE = 14,
+    /* the key is in the SAE tables, which no supplement overrides */
+    RAKHUBOLE_KEY_IN_SAE = 15
 };
 
 /* Reads a frame: the run before EOD (header, data, check byte) and the
@@ -77,6 +92,23 @@ uint64_t rakhubole_j1850_write(const uint8_t *header, size_t header_length,
 
 #define RAKHUBOLE_WRITE_FIRST(answer) ((size_t)((answer) >> 8 & 0xFF))
 #define RAKHUBOLE_WRITE_RESPONSE(answer) ((size_t)((answer) >> 16 & 0xFF))
+
+/* Tests a supplement: records one after the other, each a kind byte and a body
+ * whose length the kind fixes, numbers with the most significant byte first.
+ *
+ *   kind 1, SLOT, 20 bytes: form (1), width in bits (1), number (2),
+ *     multiplier (2), divisor (2), offset (4, signed), lowest raw (4),
+ *     highest raw (4)
+ *   kind 2, PRN, 6 bytes: PRN (2), form (1), width (1), SLOT number (2)
+ *   kind 3, layout, 37 bytes: first byte, target, selector present (0 or 1),
+ *     selector, count (0 to 16), sixteen PRNs (2 each)
+ *
+ * The empty supplement is accepted. Refused: bits 8 to 31 of the answer are
+ * the place of the first record with a fault, in bytes from the start.
+ */
+uint64_t rakhubole_supplement_check(const uint8_t *supplement, size_t supplement_length);
+
+#define RAKHUBOLE_PLACE(answer) ((size_t)((answer) >> 8 & 0xFFFFFF))
 
 #ifdef __cplusplus
 }

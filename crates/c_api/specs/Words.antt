@@ -3,6 +3,7 @@ use Prim.Native.Nat.{ℕ, _+_, _*_, _^_}
 use Rattle.frame.specs.Frame.{Outcome, refused, accepted}
 use Rattle.frame.specs.Reader.{Sizes}
 use Rattle.frame.specs.Writer.{Runs}
+use Rattle.catalogue.specs.declared.supplement.Checked.{Checked}
 
 -- Byte 1 the header's length, byte 2 that of the data, byte 3 the response kind, byte 4 the response's length without check byte.
 abbrev pub readWord : Outcome Sizes → ℕ
@@ -13,3 +14,7 @@ readWord (accepted s) = s .header * 2 ^ 8 + s .body * 2 ^ 16 + s .kind * 2 ^ 24 
 abbrev pub writeWord : Outcome Runs → ℕ
 writeWord (refused n) = n
 writeWord (accepted r) = r .first * 2 ^ 8 + r .response * 2 ^ 16
+
+-- From byte 1 on the place of the record with the fault.
+abbrev pub checkWord : Checked → ℕ
+checkWord c = c .refusal + c .place * 2 ^ 8

@@ -1,4 +1,5 @@
 // The exported calls: numbers and byte slices in, one number out. include/rakhubole.h says them in words.
+use catalogue::supplement::check_supplement;
 use frame::reader::Reading;
 use frame::reader::read_frame;
 use frame::writer::Writing;
@@ -7,7 +8,8 @@ ghost use mathlib.Core.Path.{_≡_};
 ghost use lib.ListN.{length};
 ghost use Rattle.frame.specs.Reader.{readFrame, sizes};
 ghost use Rattle.frame.specs.Writer.{writeFrame, runs, outAfter};
-ghost use Rattle.c_api.specs.Words.{readWord, writeWord};
+ghost use Rattle.catalogue.specs.Supplement.{check};
+ghost use Rattle.c_api.specs.Words.{readWord, writeWord, checkWord};
 
 // Reads a frame given as its two runs.
 #[no_mangle]
@@ -47,4 +49,13 @@ pub extern "C" fn rakhubole_j1850_write(
         Writing::Refused(n) => n as u64,
         Writing::Written { first, response } => first as u64 * 0x100 + response as u64 * 0x1_0000,
     }
+}
+
+// Tests a supplement.
+#[no_mangle]
+pub extern "C" fn rakhubole_supplement_check(supplement: &[u8]) -> u64
+    ensures { λ r. ⌜ r ≡ checkWord (check (now (supplement .entry))) ⌝ }
+{
+    let checked = check_supplement(supplement);
+    checked.refusal as u64 + checked.place as u64 * 0x100
 }

@@ -1,11 +1,13 @@
 -- A digit's value, range by range.
-use mathlib.Core.Path.{_≡_, refl}
+use mathlib.Core.Path.{_≡_, refl, ap, _∙_}
+use mathlib.Core.List.{List}
 use mathlib.Core.Bool.{Bool, true, false, cond}
-use Prim.Native.Nat.{ℕ, _-_, _≤_, _<_}
+use Prim.Native.Nat.{ℕ, zero, suc, _+_, _-_, _*_, _≤_, _<_}
 use native.Mathlib.Omega.{arith}
 use borrow.Author.Tests.{lt-ltb, le-ltb, ltb-true, ltb-false}
 use lib.Dec.{ltb}
-use Rattle.hex.specs.Digits.{digitValue}
+use lib.ListN.{length, getD}
+use Rattle.hex.specs.Digits.{digitValue, byteAt, bytesFrom}
 
 pub below-digits : (c : ℕ) → c < 48 → digitValue c ≡ 0
 unfolding digitValue
@@ -41,3 +43,17 @@ small c = go (ltb c 48) (ltb c 58) (ltb c 65) (ltb c 71) (ltb-true c 58) (ltb-tr
     go false false true v f g = omega arith
     go false false false true f g = omega (arith, g refl)
     go false false false false f g = omega arith
+
+-- The bytes of a text one by one.
+pub length-bytes : (text : List ℕ) (n at : ℕ) → length (bytesFrom text n at) ≡ n
+unfolding bytesFrom
+length-bytes text zero at = refl
+length-bytes text (suc n) at = ap suc (length-bytes text n (at + 2))
+
+pub bytes-at : (text : List ℕ) (n at j : ℕ) → j < n → getD (bytesFrom text n at) j 0 ≡ byteAt text (at + j * 2)
+unfolding bytesFrom
+bytes-at text zero at j h = absurd (omega arith)
+bytes-at text (suc n) at zero h = let e : at ≡ at + 0 * 2 = omega arith in ap (byteAt text) e
+bytes-at text (suc n) at (suc j) h =
+    let e : at + 2 + j * 2 ≡ at + suc j * 2 = omega arith in
+    bytes-at text n (at + 2) j (omega arith) ∙ ap (byteAt text) e

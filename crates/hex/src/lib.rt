@@ -1,7 +1,7 @@
 // Hexadecimal text to bytes, for the programs that read vector files.
 ghost use mathlib.Core.Path.{_≡_};
-ghost use lib.ListN.{getD};
-ghost use Rattle.hex.specs.Digits.{digitValue, byteAt};
+ghost use lib.ListN.{getD, length};
+ghost use Rattle.hex.specs.Digits.{digitValue, byteAt, bytesFrom};
 
 // A digit's value; 0 for any other character.
 pub fn digit_value(c: u8) -> u8
@@ -37,4 +37,15 @@ pub fn byte_at(text: &[u8], at: usize) -> u8
         return 0;
     }
     high * 16 + digit_value(char_at(text, at + 1))
+}
+
+// Fills `out` with the bytes that a text starts with; what the text lacks is zero.
+pub fn fill(text: &[u8], out: &mut [u8])
+    ensures { λ r. ⌜ now (out .exit) ≡ bytesFrom (now (text .entry)) (length (now (out .entry))) 0 ⌝ }
+{
+    let mut i: usize = 0;
+    while i < out.len() {
+        out[i] = byte_at(text, i * 2);
+        i += 1;
+    }
 }

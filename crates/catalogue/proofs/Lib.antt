@@ -1,0 +1,7 @@
+-- Laws that belong to no one function.
+pub mod RecordLaws
+pub mod SupplementLaws
+pub mod CheckLaws
+pub mod AcceptedLaws
+pub mod WithinLaws
+pub mod LookupLaws

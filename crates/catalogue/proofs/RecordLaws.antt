@@ -1,0 +1,124 @@
+-- Laws of a record's size, key and fields.
+use mathlib.Core.Path.{_≡_, refl, sym, ap, _∙_}
+use mathlib.Core.Bool.{Bool, true, false, _&&_}
+use mathlib.Core.List.{List, [], _∷_}
+use Prim.Native.Nat.{ℕ, zero, suc, _+_, _*_, _≤_, _<_}
+use native.Mathlib.Numerals.{add-one}
+use native.Mathlib.Omega.{arith}
+use borrow.Author.Tests.{eq-eqb, ne-eqb}
+use lib.Dec.{eqb}
+use lib.ListN.{length, drop, getD, drop-of-length-le}
+use lib.Seq.{drop-cons}
+use Rattle.sae.specs.Rows.{prnFits, slotFits}
+use Rattle.sae.specs.Search.{isFound}
+use Rattle.sae.specs.Sae.{saePrn, saeSlot}
+use Rattle.catalogue.specs.Record.{recordSize, keySize, kindOf, hasKey, two, slotRow, prnRow, numbers, allZero, layoutFits, inRange, inSae}
+
+-- A table by kind has its first entry again for every kind that is not 1, 2 or 3.
+pub elsewhere : (d x y z k : ℕ) → (k ≡ 1 → ⊥) → (k ≡ 2 → ⊥) → (k ≡ 3 → ⊥) → getD (d ∷ x ∷ y ∷ z ∷ []) k d ≡ d
+elsewhere d x y z zero a b c = refl
+elsewhere d x y z (suc zero) a b c = absurd (a refl)
+elsewhere d x y z (suc (suc zero)) a b c = absurd (b refl)
+elsewhere d x y z (suc (suc (suc zero))) a b c = absurd (c refl)
+elsewhere d x y z (suc (suc (suc (suc k)))) a b c = refl
+
+pub size-positive : (k : ℕ) → 1 ≤ recordSize k
+unfolding recordSize
+size-positive zero = omega arith
+size-positive (suc zero) = omega arith
+size-positive (suc (suc zero)) = omega arith
+size-positive (suc (suc (suc zero))) = omega arith
+size-positive (suc (suc (suc (suc k)))) = omega arith
+
+-- Kind and key lie within a whole record.
+pub key-within : (k : ℕ) → keySize k ≤ recordSize k
+unfolding keySize recordSize
+key-within zero = omega arith
+key-within (suc zero) = omega arith
+key-within (suc (suc zero)) = omega arith
+key-within (suc (suc (suc zero))) = omega arith
+key-within (suc (suc (suc (suc k)))) = omega arith
+
+pub known-key : (k : ℕ) → 1 < recordSize k → 1 ≤ keySize k
+unfolding keySize recordSize
+known-key zero h = absurd (omega arith)
+known-key (suc zero) h = omega arith
+known-key (suc (suc zero)) h = omega arith
+known-key (suc (suc (suc zero))) h = omega arith
+known-key (suc (suc (suc (suc k)))) h = absurd (omega arith)
+
+-- A key is compared byte by byte.
+pub key-ends : (key r : List ℕ) (i : ℕ) → length key ≤ i → hasKey (drop i key) (drop i r) ≡ true
+unfolding hasKey
+key-ends key r i h = rw (drop-of-length-le key {i = i} h)
+
+pub key-cut : (key r : List ℕ) (i : ℕ) → i < length key → length r ≤ i → hasKey (drop i key) (drop i r) ≡ false
+unfolding hasKey
+key-cut key r i h l = rw (drop-cons key i 0 h, drop-of-length-le r {i = i} l)
+
+pub key-differs :
+    (key r : List ℕ) (i : ℕ) → i < length key → i < length r → (getD key i 0 ≡ getD r i 0 → ⊥) → hasKey (drop i key) (drop i r) ≡ false
+unfolding hasKey
+key-differs key r i h l n = rw (drop-cons key i 0 h, drop-cons r i 0 l, ne-eqb (getD key i 0) (getD r i 0) n)
+
+pub key-same :
+    (key r : List ℕ) (i : ℕ)
+    → i < length key
+    → i < length r
+    → getD key i 0 ≡ getD r i 0
+    → hasKey (drop i key) (drop i r) ≡ hasKey (drop (i + 1) key) (drop (i + 1) r)
+unfolding hasKey
+key-same key r i h l e = rw (add-one, drop-cons key i 0 h, drop-cons r i 0 l, eq-eqb (getD key i 0) (getD r i 0) e)
+
+-- What follows a place is all zero if the byte there and what follows it are.
+pub zero-ends : (s : List ℕ) (i : ℕ) → length s ≤ i → allZero (drop i s) ≡ true
+unfolding allZero
+zero-ends s i h = rw (drop-of-length-le s {i = i} h)
+
+pub zero-differs : (s : List ℕ) (i : ℕ) → i < length s → (getD s i 0 ≡ 0 → ⊥) → allZero (drop i s) ≡ false
+unfolding allZero
+zero-differs s i h n = rw (drop-cons s i 0 h, ne-eqb (getD s i 0) 0 n)
+
+pub zero-same : (s : List ℕ) (i : ℕ) → i < length s → getD s i 0 ≡ 0 → allZero (drop i s) ≡ allZero (drop (i + 1) s)
+unfolding allZero
+zero-same s i h e = rw (add-one, drop-cons s i 0 h, eq-eqb (getD s i 0) 0 e)
+
+-- The range test and the SAE test by kind.
+module _ (r : List ℕ) where
+  pub range-slot : kindOf r ≡ 1 → inRange r ≡ slotFits (slotRow r)
+  unfolding inRange
+  range-slot e = rw (eq-eqb (kindOf r) 1 e)
+
+  pub range-prn : kindOf r ≡ 2 → inRange r ≡ prnFits (prnRow r)
+  unfolding inRange
+  range-prn e = rw (eq-eqb (kindOf r) 2 e, ne-eqb (kindOf r) 1 (λ f. omega arith))
+
+  pub range-layout : (kindOf r ≡ 1 → ⊥) → (kindOf r ≡ 2 → ⊥) → inRange r ≡ layoutFits r
+  unfolding inRange
+  range-layout a b = rw (ne-eqb (kindOf r) 1 a, ne-eqb (kindOf r) 2 b)
+
+  pub sae-slot : kindOf r ≡ 1 → inSae r ≡ isFound (saeSlot (getD r 1 0) (getD r 2 0) (two r 3))
+  unfolding inSae
+  sae-slot e = rw (eq-eqb (kindOf r) 1 e)
+
+  pub sae-prn : kindOf r ≡ 2 → inSae r ≡ isFound (saePrn (two r 1))
+  unfolding inSae
+  sae-prn e = rw (eq-eqb (kindOf r) 2 e, ne-eqb (kindOf r) 1 (λ f. omega arith))
+
+  pub sae-layout : (kindOf r ≡ 1 → ⊥) → (kindOf r ≡ 2 → ⊥) → inSae r ≡ false
+  unfolding inSae
+  sae-layout a b = rw (ne-eqb (kindOf r) 1 a, ne-eqb (kindOf r) 2 b)
+
+-- The numbers of a record one by one.
+pub length-numbers : (n i : ℕ) (r : List ℕ) → length (numbers n i r) ≡ n
+unfolding numbers
+length-numbers zero i r = refl
+length-numbers (suc n) i r = ap suc (length-numbers n (i + 2) r)
+
+pub numbers-at : (n i : ℕ) (r : List ℕ) (j : ℕ) → j < n → getD (numbers n i r) j 0 ≡ two r (i + j * 2)
+unfolding numbers
+numbers-at zero i r j h = absurd (omega arith)
+numbers-at (suc n) i r zero h = let e : i ≡ i + 0 * 2 = omega arith in ap (two r) e
+numbers-at (suc n) i r (suc j) h =
+    let e : i + 2 + j * 2 ≡ i + suc j * 2 = omega arith in
+    numbers-at n (i + 2) r j (omega arith) ∙ ap (two r) e

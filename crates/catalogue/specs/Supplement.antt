@@ -1,0 +1,74 @@
+-- A supplement as its records, and its test: document 01, refusals 10 to 15.
+use Prim.Native.Nat.{ℕ, zero, suc, _+_, _-_, _≤_, _<_}
+use mathlib.Core.Option.{Option, none, some}
+use mathlib.Core.Path.{_≡_}
+use mathlib.Core.Bool.{Bool, true, false, cond}
+use mathlib.Core.List.{List, [], _∷_, _++_, List·Memᴰ}
+use lib.Dec.{eqb, ltb}
+use lib.ListN.{length, take, drop, getD}
+use Rattle.sae.specs.Search.{firstWhere}
+use Rattle.catalogue.specs.declared.supplement.RecordFound.{RecordFound}
+use Rattle.catalogue.specs.declared.supplement.RecordFound.the-variants.{Missing, At}
+use Rattle.catalogue.specs.declared.supplement.Checked.{Checked}
+use Rattle.catalogue.specs.Record.{recordSize, kindOf, keyOf, hasKey, inRange, inSae, fault}
+
+-- The records one after the other: an unknown kind is one byte, and a record that the end cuts is what there is of it. No record is
+-- empty, so as many turns as bytes are enough.
+unfoldable pub recordsIn : ℕ → List ℕ → List (List ℕ)
+recordsIn zero s = []
+recordsIn (suc n) [] = []
+recordsIn (suc n) (k ∷ s) = take (recordSize k) (k ∷ s) ∷ recordsIn n (drop (recordSize k) (k ∷ s))
+
+unfoldable pub recordsOf : List ℕ → List (List ℕ)
+recordsOf s = recordsIn (length s) s
+
+-- The record that starts at a place.
+abbrev pub recordFrom : List ℕ → ℕ → List ℕ
+recordFrom s at = take (recordSize (getD s at 0)) (drop at s)
+
+-- The first record with a kind and key.
+unfoldable pub recordWith : List ℕ → List ℕ → Option (List ℕ)
+recordWith key s = firstWhere (hasKey key) (recordsOf s)
+
+-- The value of a search's answer: the record that stands there, and that it stands within the supplement.
+abbrev pub recordAt : List ℕ → RecordFound → Option (List ℕ)
+recordAt s Missing = none
+recordAt s (At a e) = some (take (e - a) (drop a s))
+
+abbrev pub Spanned : List ℕ → RecordFound → Type 0
+Spanned s Missing = Unit {0}
+Spanned s (At a e) = (a ≤ e) × (e ≤ length s)
+
+-- The first record with a fault gives its number and its place.
+unfoldable pub checkFrom : List (List ℕ) → ℕ → List (List ℕ) → Checked
+checkFrom seen at [] = record { refusal = 0; place = 0 }
+checkFrom seen at (r ∷ rs) =
+    cond (eqb (fault seen r) 0) (checkFrom (seen ++ r ∷ []) (at + length r) rs) (record { refusal = fault seen r; place = at })
+
+unfoldable pub check : List ℕ → Checked
+check s = cond (ltb 16384 (length s)) (record { refusal = 10; place = 0 }) (checkFrom [] 0 (recordsOf s))
+
+-- "A supplement is accepted if none of 10 to 15 applies."
+abbrev pub Accepted : List ℕ → Type 0
+Accepted s = check s .refusal ≡ 0
+
+-- The rules of an accepted supplement, said over its records without an order: each record by itself,
+pub record Sound (r : List ℕ) : Type 0 where
+  pub known : 1 < recordSize (kindOf r)
+  pub whole : length r ≡ recordSize (kindOf r)
+  pub range : inRange r ≡ true
+  pub new : inSae r ≡ false
+
+-- and no two with the same kind and key.
+abbrev pub Distinct : List (List ℕ) → Type 0
+Distinct [] = Unit {0}
+Distinct (r ∷ rs) = ((q : List ℕ) → List·Memᴰ q rs → keyOf q ≡ keyOf r → ⊥) × Distinct rs
+
+pub record Obeys (s : List ℕ) : Type 0 where
+  pub size : length s ≤ 16384
+  pub each : (r : List ℕ) → List·Memᴰ r (recordsOf s) → Sound r
+  pub keys : Distinct (recordsOf s)
+
+-- "A record stands in a supplement if one of the supplement's records has its kind and its body, byte for byte."
+abbrev pub Stands : List ℕ → List ℕ → Type 0
+Stands r s = List·Memᴰ r (recordsOf s)

@@ -1,0 +1,181 @@
+// A record of a supplement: its size, its key and its fields.
+use sae::ranges::prn_fits;
+use sae::ranges::slot_fits;
+use sae::sae::PrnRow;
+use sae::sae::SlotRow;
+use sae::sae::has_prn;
+use sae::sae::has_slot;
+ghost use mathlib.Core.Path.{_≡_};
+ghost use Prim.Native.Nat.{_<_};
+ghost use lib.ListN.{getD, drop};
+ghost use Rattle.catalogue.specs.Record.{recordSize, keySize, hasKey, two, four, slotRow, prnRow, allZero, headerFits, selectorFits, layoutFits, inRange, inSae};
+
+// Bytes of a record by its kind; an unknown kind is one byte.
+pub(crate) fn record_size(kind: u8) -> usize
+    ensures { λ r. ⌜ r ≡ recordSize kind ⌝ }
+{
+    match kind {
+        1 => 21,
+        2 => 7,
+        3 => 38,
+        _ => 1,
+    }
+}
+
+// Bytes of kind and key together.
+pub(crate) fn key_size(kind: u8) -> usize
+    ensures { λ r. ⌜ r ≡ keySize kind ⌝ }
+{
+    match kind {
+        1 => 5,
+        2 => 3,
+        3 => 5,
+        _ => 0,
+    }
+}
+
+// A byte of a record; 0 past its end.
+pub(crate) fn byte_at(bytes: &[u8], i: usize) -> u8
+    ensures { λ r. ⌜ r ≡ getD (now (bytes .entry)) i 0 ⌝ }
+{
+    if i < bytes.len() { bytes[i] } else { 0 }
+}
+
+pub(crate) fn two_at(bytes: &[u8], i: usize) -> u16
+    requires { ⌜ i < 64 ⌝ }
+    ensures { λ r. ⌜ r ≡ two (now (bytes .entry)) i ⌝ }
+{
+    let high = byte_at(bytes, i);
+    let low = byte_at(bytes, i + 1);
+    high as u16 * 256 + low as u16
+}
+
+pub(crate) fn four_at(bytes: &[u8], i: usize) -> u32
+    requires { ⌜ i < 60 ⌝ }
+    ensures { λ r. ⌜ r ≡ four (now (bytes .entry)) i ⌝ }
+{
+    let high = two_at(bytes, i);
+    let low = two_at(bytes, i + 2);
+    high as u32 * 65536 + low as u32
+}
+
+pub(crate) fn slot_of(bytes: &[u8]) -> SlotRow
+    ensures { λ r. ⌜ r ≡ slotRow (now (bytes .entry)) ⌝ }
+{
+    SlotRow {
+        form: byte_at(bytes, 1),
+        width: byte_at(bytes, 2),
+        number: two_at(bytes, 3),
+        multiplier: two_at(bytes, 5),
+        divisor: two_at(bytes, 7),
+        offset: four_at(bytes, 9),
+        lowest: four_at(bytes, 13),
+        highest: four_at(bytes, 17),
+    }
+}
+
+pub(crate) fn prn_of(bytes: &[u8]) -> PrnRow
+    ensures { λ r. ⌜ r ≡ prnRow (now (bytes .entry)) ⌝ }
+{
+    PrnRow {
+        prn: two_at(bytes, 1),
+        form: byte_at(bytes, 3),
+        width: byte_at(bytes, 4),
+        slot: two_at(bytes, 5),
+    }
+}
+
+// Whether a record starts with that kind and key.
+pub(crate) fn has_key(key: &[u8], bytes: &[u8]) -> bool
+    ensures { λ r. ⌜ r ≡ hasKey (now (key .entry)) (now (bytes .entry)) ⌝ }
+{
+    let mut i: usize = 0;
+    while i < key.len() {
+        if bytes.len() <= i {
+            return false;
+        }
+        if key[i] != bytes[i] {
+            return false;
+        }
+        i += 1;
+    }
+    true
+}
+
+// Whether every byte from a place on is zero.
+fn all_zero(bytes: &[u8], from: usize) -> bool
+    ensures { λ r. ⌜ r ≡ allZero (drop from (now (bytes .entry))) ⌝ }
+{
+    let mut i = from;
+    while i < bytes.len() {
+        if bytes[i] != 0 {
+            return false;
+        }
+        i += 1;
+    }
+    true
+}
+
+fn header_fits(first: u8, target: u8) -> bool
+    ensures { λ r. ⌜ r ≡ headerFits first target ⌝ }
+{
+    if (first >> 4) & 1 == 0 {
+        first >> 5 == 0
+    } else {
+        target == 0
+    }
+}
+
+fn selector_fits(present: u8, selector: u8) -> bool
+    ensures { λ r. ⌜ r ≡ selectorFits present selector ⌝ }
+{
+    if present == 0 {
+        selector == 0
+    } else {
+        present == 1
+    }
+}
+
+fn layout_fits(bytes: &[u8]) -> bool
+    ensures { λ r. ⌜ r ≡ layoutFits (now (bytes .entry)) ⌝ }
+{
+    if !header_fits(byte_at(bytes, 1), byte_at(bytes, 2)) {
+        return false;
+    }
+    if !selector_fits(byte_at(bytes, 3), byte_at(bytes, 4)) {
+        return false;
+    }
+    let count = byte_at(bytes, 5);
+    if 16 < count {
+        return false;
+    }
+    all_zero(bytes, 6 + count as usize * 2)
+}
+
+// Whether every field is in its range.
+pub(crate) fn in_range(bytes: &[u8]) -> bool
+    ensures { λ r. ⌜ r ≡ inRange (now (bytes .entry)) ⌝ }
+{
+    let kind = byte_at(bytes, 0);
+    if kind == 1 {
+        return slot_fits(slot_of(bytes));
+    }
+    if kind == 2 {
+        return prn_fits(prn_of(bytes));
+    }
+    layout_fits(bytes)
+}
+
+// Whether the key is in the SAE tables.
+pub(crate) fn in_sae(bytes: &[u8]) -> bool
+    ensures { λ r. ⌜ r ≡ inSae (now (bytes .entry)) ⌝ }
+{
+    let kind = byte_at(bytes, 0);
+    if kind == 1 {
+        return has_slot(byte_at(bytes, 1), byte_at(bytes, 2), two_at(bytes, 3));
+    }
+    if kind == 2 {
+        return has_prn(two_at(bytes, 1));
+    }
+    false
+}

@@ -1,0 +1,115 @@
+// A supplement as a run of records: the search for a key, and the test.
+use crate::record::byte_at;
+use crate::record::has_key;
+use crate::record::in_range;
+use crate::record::in_sae;
+use crate::record::key_size;
+use crate::record::record_size;
+ghost use mathlib.Core.Path.{_≡_};
+ghost use Prim.Native.Nat.{_+_, _≤_, _<_};
+ghost use lib.ListN.{length, take, drop};
+ghost use Rattle.sae.specs.Search.{firstWhere, isFound};
+ghost use Rattle.catalogue.specs.Record.{kindOf, keySize, keyOf, hasKey, fault};
+ghost use Rattle.catalogue.specs.Supplement.{recordFrom, recordsOf, recordWith, recordAt, Spanned, check};
+
+// Where a record stands, from its first byte to behind its last.
+pub enum RecordFound {
+    Missing,
+    At(usize, usize),
+}
+
+// The refusal, 0 for none, and the place of the record with the fault.
+pub struct Checked {
+    pub refusal: u8,
+    pub place: usize,
+}
+
+// The end of the record that starts at a place.
+fn record_end(s: &[u8], at: usize) -> usize
+    requires { ⌜ at < length (now s) ⌝ }
+    ensures { λ r. ⌜ r ≡ at + length (recordFrom (now (s .entry)) at) ⌝ }
+{
+    let size = record_size(s[at]);
+    if size < s.len() - at {
+        at + size
+    } else {
+        s.len()
+    }
+}
+
+// The first record with that kind and key.
+pub(crate) fn find_record(s: &[u8], key: &[u8]) -> RecordFound
+    ensures found { λ r. ⌜ recordAt (now (s .entry)) r ≡ recordWith (now (key .entry)) (now (s .entry)) ⌝ }
+    ensures spanned { λ r. ⌜ Spanned (now (s .entry)) r ⌝ }
+{
+    let mut at: usize = 0;
+    while at < s.len() {
+        let end = record_end(s, at);
+        if has_key(key, &s[at..end]) {
+            return RecordFound::At(at, end);
+        }
+        at = end;
+    }
+    RecordFound::Missing
+}
+
+// Whether a record with the same kind and key stands among those seen.
+fn seen_before(seen: &[u8], bytes: &[u8]) -> bool
+    requires { ⌜ keySize (kindOf (now bytes)) ≤ length (now bytes) ⌝ }
+    ensures { λ r. ⌜ r ≡ isFound (firstWhere (hasKey (keyOf (now (bytes .entry)))) (recordsOf (now (seen .entry)))) ⌝ }
+{
+    let size = key_size(byte_at(bytes, 0));
+    let found = find_record(seen, &bytes[..size]);
+    match found {
+        RecordFound::Missing => false,
+        RecordFound::At(_, _) => true,
+    }
+}
+
+// The lowest of 11 to 15 that applies to a record after those seen, or 0.
+fn fault_of(seen: &[u8], bytes: &[u8]) -> u8
+    ensures { λ r. ⌜ r ≡ fault (recordsOf (now (seen .entry))) (now (bytes .entry)) ⌝ }
+{
+    let size = record_size(byte_at(bytes, 0));
+    if size <= 1 {
+        return 11;
+    }
+    if bytes.len() < size {
+        return 12;
+    }
+    if !in_range(bytes) {
+        return 13;
+    }
+    if seen_before(seen, bytes) {
+        return 14;
+    }
+    if in_sae(bytes) {
+        return 15;
+    }
+    0
+}
+
+// Tests any bytes: accepted, or the refusal and the place of the first record with a fault.
+pub fn check_supplement(s: &[u8]) -> Checked
+    ensures { λ r. ⌜ r ≡ check (now (s .entry)) ⌝ }
+{
+    if 16384 < s.len() {
+        return Checked {
+            refusal: 10,
+            place: 0,
+        };
+    }
+    let mut at: usize = 0;
+    while at < s.len() {
+        let end = record_end(s, at);
+        let refusal = fault_of(&s[..at], &s[at..end]);
+        if refusal != 0 {
+            return Checked { refusal, place: at };
+        }
+        at = end;
+    }
+    Checked {
+        refusal: 0,
+        place: 0,
+    }
+}
