@@ -1,11 +1,13 @@
 //! A second reading of the rules, apart from the library, to judge it by.
 //!
-//! `frame`, `sae` and `supplement` hold the rules; `vectors` and `compare` hold
-//! the cases that the two programs of the same names make from them.
+//! `frame`, `sae`, `supplement` and `report` hold the rules; `vectors` and
+//! `compare` hold the cases that the two programs of the same names make from
+//! them.
 
 pub mod compare;
 pub mod frame;
 pub mod random;
+pub mod report;
 pub mod sae;
 pub mod supplement;
 pub mod text;

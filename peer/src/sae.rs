@@ -18,6 +18,11 @@ pub struct Prn {
 }
 
 impl Prn {
+    /// The key of the SLOT.
+    pub fn slot_key(&self) -> (u8, u8, u16) {
+        (self.form, self.width, self.number)
+    }
+
     pub const fn new(prn: u16, form: u8, width: u8, number: u16) -> Prn {
         Prn {
             prn,
@@ -48,12 +53,24 @@ impl Slot {
     }
 }
 
+/// The row of this PRN.
+pub fn prn_row(prn: u16) -> Option<Prn> {
+    let place = PRNS.binary_search_by_key(&prn, |row| row.prn);
+    place.ok().map(|place| PRNS[place])
+}
+
+/// The row of this form, width and number.
+pub fn slot_row(key: (u8, u8, u16)) -> Option<Slot> {
+    let place = SLOTS.binary_search_by_key(&key, Slot::key);
+    place.ok().map(|place| SLOTS[place])
+}
+
 pub fn has_prn(prn: u16) -> bool {
-    PRNS.binary_search_by_key(&prn, |row| row.prn).is_ok()
+    prn_row(prn).is_some()
 }
 
 pub fn has_slot(key: (u8, u8, u16)) -> bool {
-    SLOTS.binary_search_by_key(&key, Slot::key).is_ok()
+    slot_row(key).is_some()
 }
 
 /// The largest raw number of `width` bits, at most FFFFFFFFh.

@@ -5,6 +5,7 @@ pub mod kind;
 pub mod layout;
 #[cfg(test)]
 pub mod mutants;
+pub mod records;
 pub mod walk;
 
 use kind::{Kind, KINDS};

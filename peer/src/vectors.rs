@@ -1,5 +1,6 @@
 //! Vector files: one case a line, and one line of expected output for each.
 
+mod counts;
 pub mod frame;
 mod frame_coverage;
 mod frame_reads;
@@ -26,33 +27,29 @@ pub struct Files {
 
 impl Files {
     /// Expected output that needs no cases.
-    pub fn listing(stdout: String) -> Files {
-        Files {
-            stdout,
-            ..Files::default()
-        }
+    pub fn listing(expected: &str) -> Files {
+        let mut files = Files::default();
+        files.expect(expected);
+        files
     }
 
     /// True if the case is new.
     pub fn add(&mut self, case: String, expected: &str) -> bool {
-        let new = !self.seen.contains(&case);
+        let new = self.seen.insert(case.clone());
         if new {
             self.stdin.push_str(&case);
-            // the programs that run the cases print digits in lower case
-            self.stdout.push_str(&expected.to_lowercase());
-            self.seen.insert(case);
+            self.expect(expected);
         }
         new
     }
 
-    /// The same, with the digits of the expected output as they are given.
-    pub fn add_as_given(&mut self, case: String, expected: &str) -> bool {
-        let new = self.seen.insert(case.clone());
-        if new {
-            self.stdin.push_str(&case);
-            self.stdout.push_str(expected);
-        }
-        new
+    /// The programs that run the cases print hex digits in lower case.
+    fn expect(&mut self, expected: &str) {
+        let lower = expected.chars().map(|letter| match letter {
+            'A'..='F' => letter.to_ascii_lowercase(),
+            _ => letter,
+        });
+        self.stdout.extend(lower);
     }
 
     pub fn cases(&self) -> usize {

@@ -29,7 +29,7 @@ fn raised(pattern: u32) -> u64
 }
 
 // Whether the lowest raw number is not above the highest, as signed for SNM.
-fn in_order(form: u8, lowest: u32, highest: u32) -> bool
+pub fn in_order(form: u8, lowest: u32, highest: u32) -> bool
     ensures { λ r. ⌜ r ≡ inOrder form lowest highest ⌝ }
 {
     if form == 2 {

@@ -74,7 +74,7 @@ fn counts() {
     assert_eq!(PRNS.len(), 308);
     let of_form = |form: u8| SLOTS.iter().filter(|slot| slot.form == form).count();
     let counts: Vec<usize> = (UNM..=PKT).map(of_form).collect();
-    assert_eq!(counts, [87, 5, 22, 14, 7, 14, 0, 0, 0]);
+    assert_eq!(counts, [87, 5, 19, 14, 7, 14, 0, 0, 0]);
 }
 
 #[test]
@@ -114,4 +114,17 @@ fn keys_are_found() {
     assert!(!has_prn(0x100C) && !has_prn(0x001C) && !has_prn(0x380D) && !has_prn(0xFFFF));
     assert!(has_slot((UNM, 1, 0)) && has_slot((BCD, 56, 1)) && has_slot((UNM, 8, 101)));
     assert!(!has_slot((UNM, 8, 103)) && !has_slot((PKT, 8, 1)) && !has_slot((SFP, 32, 1)));
+    assert!(!has_slot((SED, 6, 1)) && !has_slot((SED, 8, 4)) && !has_slot((SED, 8, 5)));
+}
+
+#[test]
+fn every_row_is_found_by_its_key() {
+    for row in PRNS {
+        assert_eq!(prn_row(row.prn), Some(*row));
+    }
+    for row in SLOTS {
+        assert_eq!(slot_row(row.key()), Some(*row));
+    }
+    assert_eq!(prn_row(0x100C), None);
+    assert_eq!(slot_row((SED, 8, 4)), None);
 }

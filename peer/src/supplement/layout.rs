@@ -25,6 +25,15 @@ impl Layout {
         }
     }
 
+    pub fn key(&self) -> [u8; 4] {
+        [self.first_byte, self.target, self.present, self.selector]
+    }
+
+    /// The PRNs that the count says.
+    pub fn used(&self) -> &[u16] {
+        &self.prns[..usize::from(self.count)]
+    }
+
     /// The layout with these PRNs, and their count.
     pub fn with_prns(mut self, prns: &[u16]) -> Layout {
         self.count = prns.len() as u8;

@@ -103,6 +103,7 @@ mod tests {
         assert!((4000..=6000).contains(&files.cases()), "{}", files.cases());
         assert_eq!(files.stdin.len(), 113 * files.cases());
         assert_eq!(files.stdout.lines().count(), files.cases());
+        assert!(!files.stdout.contains(char::is_uppercase));
         let (again, _, _) = make();
         assert!(again.stdin == files.stdin && again.stdout == files.stdout);
     }

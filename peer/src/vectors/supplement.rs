@@ -14,7 +14,7 @@ pub fn make() -> (Files, String, Vec<String>) {
     let mut coverage = Coverage::default();
     for supplement in cases() {
         let expected = hex_answer(answer(&supplement)) + "\n";
-        if files.add_as_given(case_line(&supplement), &expected) {
+        if files.add(case_line(&supplement), &expected) {
             coverage.count(&supplement);
         }
     }
@@ -60,8 +60,8 @@ mod tests {
         assert!(files.stdin.len() < 1_500_000, "{}", files.stdin.len());
         assert_eq!(files.stdin.lines().count(), files.cases());
         assert_eq!(files.stdout.len(), 17 * files.cases());
-        let digits = [&files.stdin[..], &files.stdout].concat();
-        assert!(!digits.contains(char::is_lowercase));
+        assert!(!files.stdin.contains(char::is_lowercase));
+        assert!(!files.stdout.contains(char::is_uppercase));
         let (again, _, _) = make();
         assert!(again.stdin == files.stdin && again.stdout == files.stdout);
     }

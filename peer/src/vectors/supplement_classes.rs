@@ -1,14 +1,12 @@
 //! The classes a supplement belongs to, told by its bytes.
 
+use super::counts::Class;
 use crate::sae::{has_prn, has_slot, SLOTS};
 use crate::supplement::draft::key_of;
 use crate::supplement::kind::{number_16, number_32, KINDS, LAYOUT, PLACES, PRN, SLOT};
 use crate::supplement::walk::{Record, Walk};
 use crate::supplement::{refusal, MOST_BYTES, RULES};
 use crate::text::hex;
-
-/// The group and the name in it.
-pub type Class = (&'static str, String);
 
 pub fn classes_of(supplement: &[u8]) -> Vec<Class> {
     let number = RULES.refusal(supplement).map(|(number, _)| number);

@@ -1,58 +1,30 @@
 //! The classes of cases that the supplement files promise, and their counts.
 
-use super::supplement_classes::{classes_of, sae_name, verdict, zero_or_other, Class};
+use super::counts::{named, Class, Counts};
+use super::supplement_classes::{classes_of, sae_name, verdict, zero_or_other};
 use crate::sae::{PRNS, SLOTS};
 use crate::supplement::draft::{prn_record, slot_record};
 use crate::supplement::kind::{self, Kind, KINDS, PLACES};
 use crate::supplement::refusal::{IN_SAE, RANGE, SEEN_BEFORE};
 use crate::supplement::MOST_BYTES;
-use std::collections::{BTreeMap, BTreeSet};
 
 #[derive(Default)]
 pub struct Coverage {
-    counts: BTreeMap<Class, usize>,
+    counts: Counts,
 }
 
 impl Coverage {
     pub fn count(&mut self, supplement: &[u8]) {
-        let classes: BTreeSet<Class> = classes_of(supplement).into_iter().collect();
-        for class in classes {
-            *self.counts.entry(class).or_default() += 1;
-        }
+        self.counts.count(classes_of(supplement));
     }
 
-    /// How many cases of each answer, then a line for each other group.
     pub fn summary(&self) -> String {
-        let answers = self
-            .counts
-            .iter()
-            .filter(|((group, _), _)| *group == "answer");
-        let answers: Vec<String> = answers
-            .map(|((_, name), cases)| format!("{name}: {cases}"))
-            .collect();
-        let mut text = answers.join(", ");
-        let promised = promised();
-        let groups: BTreeSet<&str> = promised.iter().map(|class| class.0).collect();
-        for group in groups {
-            let classes = promised.iter().filter(|class| class.0 == group);
-            let counts: Vec<usize> = classes.map(|class| self.cases_of(class)).collect();
-            let (classes, cases) = (counts.len(), counts.iter().sum::<usize>());
-            text += &format!("\n  {group}: {classes} classes, {cases} cases");
-        }
-        text
-    }
-
-    fn cases_of(&self, class: &Class) -> usize {
-        self.counts.get(class).copied().unwrap_or(0)
+        self.counts.summary(&promised())
     }
 
     /// The promised classes that have no case.
     pub fn missing(&self) -> Vec<String> {
-        let promised = promised().into_iter();
-        promised
-            .filter(|class| self.cases_of(class) == 0)
-            .map(|(group, name)| format!("{group}: {name}"))
-            .collect()
+        self.counts.missing(&promised())
     }
 }
 
@@ -72,10 +44,6 @@ fn promised() -> Vec<Class> {
         lengths(),
     ];
     groups.into_iter().flatten().collect()
-}
-
-fn named(group: &'static str, names: &[&str]) -> Vec<Class> {
-    names.iter().map(|name| (group, name.to_string())).collect()
 }
 
 fn answers() -> Vec<Class> {

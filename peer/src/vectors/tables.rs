@@ -7,7 +7,7 @@ use crate::sae::{form, Prn, Slot, PRNS, SLOTS};
 pub fn make() -> (Files, String, Vec<String>) {
     let mut listing: String = PRNS.iter().map(prn_line).collect();
     listing.extend(SLOTS.iter().map(slot_line));
-    (Files::listing(listing), summary(), Vec::new())
+    (Files::listing(&listing), summary(), Vec::new())
 }
 
 fn prn_line(row: &Prn) -> String {
@@ -52,13 +52,15 @@ mod tests {
         assert_eq!(lines.len(), PRNS.len() + SLOTS.len());
         assert_eq!(lines[0], "P 0000 04 20 0001");
         assert!(lines.contains(&"P 1025 01 08 0065"));
-        assert!(lines.contains(&"S 01 08 0052 0003 0004 FFFFFE98 00000000 000000F0"));
-        assert!(lines.contains(&"S 02 08 0015 0001 0001 00000000 FFFFFF80 0000007F"));
+        assert!(lines.contains(&"S 01 08 0052 0003 0004 fffffe98 00000000 000000f0"));
+        assert!(lines.contains(&"S 02 08 0015 0001 0001 00000000 ffffff80 0000007f"));
         assert_eq!(
             lines.last(),
-            Some(&"S 06 38 0001 0001 0001 00000000 00000000 FFFFFFFF")
+            Some(&"S 06 38 0001 0001 0001 00000000 00000000 ffffffff")
         );
         assert!(files.stdout.ends_with('\n') && files.stdin.is_empty());
-        assert!(!files.stdout.contains(char::is_lowercase));
+        assert!(!files
+            .stdout
+            .contains(|letter| ('A'..='F').contains(&letter)));
     }
 }

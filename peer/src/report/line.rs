@@ -1,0 +1,164 @@
+//! The lines of a report and their rows.
+
+/// The kinds of row.
+pub mod row_kind {
+    pub const NUMBER: u8 = 1;
+    pub const STATE: u8 = 2;
+    pub const BITS: u8 = 3;
+    pub const TEXT: u8 = 4;
+    pub const DIGITS: u8 = 5;
+    pub const INVALID: u8 = 6;
+    pub const SHORT: u8 = 7;
+    pub const UNKNOWN: u8 = 8;
+    pub const LEFT: u8 = 9;
+    pub const ANSWERED: u8 = 10;
+    pub const VERDICT: u8 = 11;
+}
+
+/// The body's length by kind of row, from kind 1 on.
+pub const BODIES: [usize; 11] = [8, 4, 4, 4, 4, 4, 0, 1, 1, 1, 1];
+
+/// The Unknown numbers.
+pub mod unknown {
+    /// The PRN is in neither table.
+    pub const NO_PRN: u8 = 1;
+    pub const PLACE_LOST: u8 = 2;
+    pub const NO_SLOT: u8 = 3;
+    /// The form, or its width, is one that is not shown.
+    pub const FORM: u8 = 4;
+    /// A code outside the states of a SED.
+    pub const STATE: u8 = 5;
+    /// More than 32 bits.
+    pub const WIDE: u8 = 6;
+    /// A response of kind 3.
+    pub const RESPONSE: u8 = 7;
+    pub const NO_LAYOUT: u8 = 8;
+}
+
+pub mod verdict {
+    pub const CLEAR: u8 = 1;
+    pub const FLAGGED: u8 = 2;
+    pub const UNKNOWN: u8 = 3;
+}
+
+#[derive(Clone, Copy, Debug, PartialEq)]
+pub enum Line {
+    /// The bits of a double.
+    Number(u64),
+    State(u32),
+    Bits(u32),
+    Text(u32),
+    Digits(u32),
+    Invalid(u32),
+    Short,
+    Unknown(u8),
+    /// Bits after the last item.
+    Left(u8),
+    /// The kind of response.
+    Answered(u8),
+}
+
+/// Kind and body.
+pub fn row(line: &Line) -> Vec<u8> {
+    use row_kind::*;
+    match *line {
+        Line::Number(bits) => with_body(NUMBER, &bits.to_be_bytes()),
+        Line::State(code) => with_body(STATE, &code.to_be_bytes()),
+        Line::Bits(code) => with_body(BITS, &code.to_be_bytes()),
+        Line::Text(code) => with_body(TEXT, &code.to_be_bytes()),
+        Line::Digits(code) => with_body(DIGITS, &code.to_be_bytes()),
+        Line::Invalid(raw) => with_body(INVALID, &raw.to_be_bytes()),
+        Line::Short => vec![SHORT],
+        Line::Unknown(number) => vec![UNKNOWN, number],
+        Line::Left(bits) => vec![LEFT, bits],
+        Line::Answered(kind) => vec![ANSWERED, kind],
+    }
+}
+
+fn with_body(kind: u8, body: &[u8]) -> Vec<u8> {
+    [&[kind], body].concat()
+}
+
+/// Flagged if a line is Invalid or Short or Left is not 0; otherwise Unknown
+/// if a line is Unknown; otherwise Clear.
+pub fn verdict_on(lines: &[Line]) -> u8 {
+    let is_flagged = |line: &Line| match line {
+        Line::Invalid(_) | Line::Short => true,
+        Line::Left(bits) => *bits != 0,
+        _ => false,
+    };
+    let is_unknown = |line: &Line| matches!(line, Line::Unknown(_));
+    if lines.iter().any(is_flagged) {
+        verdict::FLAGGED
+    } else if lines.iter().any(is_unknown) {
+        verdict::UNKNOWN
+    } else {
+        verdict::CLEAR
+    }
+}
+
+#[cfg(test)]
+mod tests {
+    use super::*;
+
+    #[test]
+    fn rows() {
+        let number = Line::Number(101.0_f64.to_bits());
+        assert_eq!(row(&number), [1, 0x40, 0x59, 0x40, 0, 0, 0, 0, 0]);
+        assert_eq!(row(&Line::State(0x25)), [2, 0, 0, 0, 0x25]);
+        assert_eq!(row(&Line::Bits(0x8000_0001)), [3, 0x80, 0, 0, 1]);
+        assert_eq!(row(&Line::Text(0x4142)), [4, 0, 0, 0x41, 0x42]);
+        assert_eq!(row(&Line::Digits(0x123)), [5, 0, 0, 1, 0x23]);
+        assert_eq!(row(&Line::Invalid(0xF1)), [6, 0, 0, 0, 0xF1]);
+        assert_eq!(row(&Line::Short), [7]);
+        assert_eq!(row(&Line::Unknown(5)), [8, 5]);
+        assert_eq!(row(&Line::Left(72)), [9, 72]);
+        assert_eq!(row(&Line::Answered(2)), [10, 2]);
+    }
+
+    #[test]
+    fn bodies_have_their_lengths() {
+        let code = 0x1234_5678;
+        let lines = [
+            Line::Number(7),
+            Line::State(code),
+            Line::Bits(code),
+            Line::Text(code),
+            Line::Digits(code),
+            Line::Invalid(code),
+            Line::Short,
+            Line::Unknown(1),
+            Line::Left(0),
+            Line::Answered(0),
+        ];
+        for (place, line) in lines.iter().enumerate() {
+            let row = row(line);
+            assert_eq!(usize::from(row[0]), place + 1);
+            assert_eq!(row.len(), 1 + BODIES[place]);
+        }
+    }
+
+    #[test]
+    fn verdicts() {
+        let shown = [
+            Line::Number(7),
+            Line::State(1),
+            Line::Bits(2),
+            Line::Text(3),
+        ];
+        let sound = [&shown[..], &[Line::Digits(4), Line::Left(0)]].concat();
+        assert_eq!(verdict_on(&sound), verdict::CLEAR);
+        let after = |line| verdict_on(&[&sound[..], &[line, Line::Answered(0)]].concat());
+        assert_eq!(after(Line::Invalid(0)), verdict::FLAGGED);
+        assert_eq!(after(Line::Short), verdict::FLAGGED);
+        assert_eq!(after(Line::Left(1)), verdict::FLAGGED);
+        for number in 1..=8 {
+            assert_eq!(after(Line::Unknown(number)), verdict::UNKNOWN);
+        }
+        assert_eq!(
+            verdict_on(&[Line::Unknown(3), Line::Left(8)]),
+            verdict::FLAGGED
+        );
+        assert_eq!(verdict_on(&[Line::Left(0), Line::Answered(2)]), 1);
+    }
+}

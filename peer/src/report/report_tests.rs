@@ -1,0 +1,212 @@
+use super::case::{ReportCase, LONGEST};
+use super::scene::{own_rows, plain, Sample, Scene};
+use super::*;
+use crate::frame::check_byte::checked;
+use crate::frame::draft::Draft;
+use crate::random::Random;
+use crate::sae::form::*;
+use crate::supplement::draft::{layout_record, prn_record, slot_record};
+use crate::supplement::layout::Layout;
+use crate::supplement::refused_answer;
+
+/// The supplement of the whole report among the bench cases.
+fn bench_supplement() -> Vec<u8> {
+    let layout = Layout::of_key([0x08, 0x6B, 1, 0x41]);
+    layout_record(&layout.with_prns(&[0x1025, 0x100B]))
+}
+
+fn bench_case(data: &[u8]) -> ReportCase {
+    let first = checked(&[&[0x48, 0x6B, 0x10][..], data].concat());
+    ReportCase::new(bench_supplement(), (first, Vec::new()))
+}
+
+#[test]
+fn the_whole_report() {
+    let case = bench_case(&[0x41, 0x65, 0x80]);
+    let mut rows = vec![1, 0x40, 0x59, 0x40, 0, 0, 0, 0, 0, 1];
+    rows.extend([0; 8]);
+    rows.extend([9, 0, 10, 0, 11, 1]);
+    assert_eq!(rows.len(), 24);
+    for lent in [24, 25, LONGEST, usize::MAX] {
+        assert_eq!(case.clone().lent(lent).answer(), (0x1800, rows.clone()));
+    }
+    for lent in [0, 1, 23] {
+        assert_eq!(case.clone().lent(lent).answer(), (8, Vec::new()));
+    }
+    let (_, more) = bench_case(&[0x41, 0x65, 0x80, 0x99]).answer();
+    assert_eq!(more[..18], rows[..18]);
+    assert_eq!(more[18..], [9, 8, 10, 0, 11, 2]);
+    let (_, less) = bench_case(&[0x41, 0x65]).answer();
+    assert_eq!(less, [&rows[..9], &[7, 7, 10, 0, 11, 2]].concat());
+    let (_, nothing) = bench_case(&[]).answer();
+    assert_eq!(nothing, [8, 8, 10, 0, 11, 3]);
+    let (_, other) = bench_case(&[0x42, 0x65, 0x80]).answer();
+    assert_eq!(other, [8, 8, 10, 0, 11, 3]);
+}
+
+#[test]
+fn order_of_refusals() {
+    let sound = bench_case(&[0x41, 0x65, 0x80]);
+    let mut case = sound.clone().lent(0);
+    case.first[3] ^= 1;
+    case.supplement.push(9);
+    assert_eq!(case.answer(), (refused_answer(11, 38), Vec::new()));
+    case.supplement.pop();
+    assert_eq!(case.answer(), (3, Vec::new()));
+    case.first = sound.first.clone();
+    assert_eq!(case.answer(), (8, Vec::new()));
+    case.supplement = vec![2; 16_385];
+    assert_eq!(case.answer(), (10, Vec::new()));
+    case.supplement = Vec::new();
+    case.first.clear();
+    assert_eq!(case.answer(), (2, Vec::new()));
+}
+
+/// The first line of a report of one item.
+fn only_line(sample: Sample) -> Line {
+    let mut random = Random::new(61);
+    let scene = Scene::holding(0x18, &[sample], &mut random);
+    assert_eq!(scene.case().answer().0 & 0xFF, 0);
+    let supplement = scene.case().supplement;
+    let parts = super::scene::parts_of(&scene.frame);
+    RULES.report(&Records::of(&supplement), &parts).lines[0]
+}
+
+#[test]
+fn bench_values() {
+    let of_slot = |form, width, number, raw| {
+        only_line(Sample::own(
+            Prn::new(0x2000, form, width, number),
+            None,
+            raw,
+        ))
+    };
+    let number = |value: f64| Line::Number(value.to_bits());
+    assert_eq!(of_slot(UNM, 8, 77, 150), number(100.0));
+    assert_eq!(of_slot(UNM, 8, 77, 151), Line::Invalid(151));
+    assert_eq!(of_slot(UNM, 8, 82, 240), number(90.0));
+    assert_eq!(of_slot(UNM, 8, 82, 241), Line::Invalid(241));
+    assert_eq!(of_slot(UNM, 8, 92, 0), number(-100.0));
+    assert_eq!(of_slot(UNM, 8, 92, 128), Line::Number(0));
+    assert_eq!(of_slot(UNM, 16, 3, 0), number(-70.0));
+    assert_eq!(of_slot(UNM, 8, 102, 39), number(-1.0));
+    let (prn, slot) = own_rows(0, SNM, 8);
+    let signed = |raw| only_line(Sample::own(prn, Some(slot), raw));
+    assert_eq!((signed(0x80), signed(0xFF)), (number(-128.0), number(-1.0)));
+    assert_eq!(of_slot(UNM, 8, 241, 255), number(1044480.0));
+    assert_eq!(of_slot(UNM, 16, 61, 65535), number(4194240.0));
+    assert_eq!(of_slot(UNM, 8, 103, 0), Line::Unknown(3));
+}
+
+#[test]
+fn keys_of_layouts() {
+    let key = |header: &[u8], data: &[u8]| {
+        let draft = Draft {
+            header: header.to_vec(),
+            data: data.to_vec(),
+            response: Vec::new(),
+        };
+        layout_key(&super::scene::parts_of(&draft))
+    };
+    assert_eq!(key(&[0xE8, 0x6B, 0x10], &[0x41, 1]), [0x08, 0x6B, 1, 0x41]);
+    assert_eq!(key(&[0xE8, 0x6B, 0x10], &[]), [0x08, 0x6B, 0, 0]);
+    assert_eq!(key(&[0xF8], &[0]), [0xF8, 0, 1, 0]);
+    assert_eq!(key(&[0x18], &[]), [0x18, 0, 0, 0]);
+}
+
+fn rows_of(samples: &[Sample], data: usize) -> Vec<u8> {
+    let mut random = Random::new(62);
+    let mut scene = Scene::of(super::scene::frame(0x18, data, &mut random));
+    for sample in samples {
+        scene.add(sample);
+    }
+    scene.case().answer().1
+}
+
+#[test]
+fn places_lost_and_past() {
+    let (known, missing) = (plain(0, 8, 0), Sample::missing(0x2001));
+    let unknown_then = |last: Sample| rows_of(&[known, missing, last], 3);
+    let zero = [1, 0, 0, 0, 0, 0, 0, 0, 0];
+    let expected = [&zero[..], &[8, 1, 8, 2, 8, 2, 10, 0, 11, 3]].concat();
+    assert_eq!(unknown_then(known), expected);
+    assert_eq!(unknown_then(missing), expected);
+    let short = [&zero[..], &[7, 7, 7, 10, 0, 11, 2]].concat();
+    assert_eq!(rows_of(&[known, known, missing], 2), short);
+    assert_eq!(rows_of(&[known, plain(1, 9, 0), known], 3), short);
+}
+
+#[test]
+fn the_place_goes_on_after_other_unknowns() {
+    let (prn, _) = own_rows(5, BMP, 3);
+    let (wide, wide_slot) = own_rows(6, BMP, 33);
+    let without_slot = Sample::own(prn, None, 7);
+    let wide = Sample::own(wide, Some(wide_slot), 1);
+    let rows = rows_of(&[without_slot, wide, plain(0, 4, 9)], 6);
+    let nine = [1, 0x40, 0x22, 0, 0, 0, 0, 0, 0];
+    let expected = [&[8, 3, 8, 6][..], &nine, &[9, 0, 10, 0, 11, 3]].concat();
+    assert_eq!(rows, expected);
+}
+
+#[test]
+fn responses() {
+    let rows = |first_byte: u8, response: &[u8]| {
+        let frame = Draft {
+            header: vec![first_byte],
+            data: Vec::new(),
+            response: response.to_vec(),
+        };
+        Scene::of(frame).case().answer().1
+    };
+    assert_eq!(rows(0x18, &[]), [9, 0, 10, 0, 11, 1]);
+    assert_eq!(rows(0x11, &[7]), [9, 0, 10, 1, 11, 1]);
+    assert_eq!(rows(0x12, &[7, 8]), [9, 0, 10, 2, 11, 1]);
+    assert_eq!(rows(0x13, &[7]), [9, 0, 8, 7, 11, 3]);
+}
+
+#[test]
+fn tables_beside_each_other() {
+    let (own, slot) = own_rows(0, BMP, 8);
+    let text = Slot {
+        form: ASC,
+        number: 11,
+        ..slot
+    };
+    let packet = Slot {
+        form: PKT,
+        number: 1,
+        ..slot
+    };
+    let layout = Layout::of_key([0x18, 0, 1, 0x41]);
+    let layout = layout.with_prns(&[0x100D, 0x1805, 0x2000]);
+    let first = checked(&[0x18, 0x41, 0x42, 0x43, 0x44]);
+    let rows = |records: &[Vec<u8>]| {
+        let supplement = [&[layout_record(&layout)], records].concat().concat();
+        ReportCase::new(supplement, (first.clone(), Vec::new()))
+            .answer()
+            .1
+    };
+    let bare = rows(&[]);
+    assert_eq!(bare, [8, 3, 8, 3, 8, 1, 8, 2, 10, 0, 11, 3]);
+    let all = rows(&[
+        slot_record(&text),
+        prn_record(&own),
+        slot_record(&packet),
+        slot_record(&slot),
+    ]);
+    let expected = [4, 0, 0, 0, 0x42, 8, 4, 3, 0, 0, 0, 0x44];
+    assert_eq!(all, [&expected[..], &[9, 0, 10, 0, 11, 3]].concat());
+    let override_sae = slot_record(&sae::SLOTS[40]);
+    let supplement = [layout_record(&layout), override_sae].concat();
+    let case = ReportCase::new(supplement, (first.clone(), Vec::new()));
+    assert_eq!(case.answer(), (refused_answer(15, 38), Vec::new()));
+}
+
+#[test]
+fn the_longest_report() {
+    let samples = [plain(0, 4, 1); 16];
+    let rows = rows_of(&samples, 9);
+    assert_eq!(rows.len(), LONGEST);
+    assert_eq!(rows[144..], [9, 0, 10, 0, 11, 1]);
+    assert_eq!(rows_of(&[], 10), [9, 72, 10, 0, 11, 2]);
+}

@@ -1,0 +1,202 @@
+//! A frame and the records that tell of it, from which cases are made.
+
+use super::bits::put;
+use super::case::ReportCase;
+use super::layout_key;
+use crate::frame::draft::Draft;
+use crate::frame::header::{kind_of_run, response_kind};
+use crate::frame::reader::Parts;
+use crate::random::Random;
+use crate::sae::form::UNM;
+use crate::sae::{all_ones, has_prn, has_slot, prn_row, Prn, Slot};
+use crate::supplement::draft::{layout_record, prn_record, slot_record, Bytes};
+use crate::supplement::kind::PLACES;
+use crate::supplement::layout::Layout;
+
+/// One item: its PRN, the PRN's row and a SLOT if they are known, and the
+/// bits it has in the data.
+#[derive(Clone, Copy, Debug)]
+pub struct Sample {
+    pub prn: u16,
+    pub row: Option<Prn>,
+    pub slot: Option<Slot>,
+    pub raw: u64,
+}
+
+impl Sample {
+    /// A PRN of the SAE tables.
+    pub fn sae(prn: u16, raw: u64) -> Sample {
+        let row = prn_row(prn);
+        assert!(row.is_some(), "{prn:04X} is in the SAE tables");
+        let slot = None;
+        Sample {
+            prn,
+            row,
+            slot,
+            raw,
+        }
+    }
+
+    /// A PRN with the row given, and the SLOT if there is one.
+    pub fn own(row: Prn, slot: Option<Slot>, raw: u64) -> Sample {
+        Sample {
+            prn: row.prn,
+            row: Some(row),
+            slot,
+            raw,
+        }
+    }
+
+    /// A PRN of no table.
+    pub fn missing(prn: u16) -> Sample {
+        assert!(!has_prn(prn), "{prn:04X} is in no table");
+        let (row, slot, raw) = (None, None, 0);
+        Sample {
+            prn,
+            row,
+            slot,
+            raw,
+        }
+    }
+
+    /// Zero fill of 1 to 7 bits.
+    pub fn pad(width: usize) -> Sample {
+        Sample::sae(0xF80F + width as u16, 0)
+    }
+
+    pub fn width(&self) -> usize {
+        self.row.map_or(0, |row| usize::from(row.width))
+    }
+}
+
+/// The first PRN and SLOT number of those that are in no SAE table.
+pub const OWN_PRN: u16 = 0x2000;
+pub const OWN_SLOT: u16 = 1000;
+
+/// The PRN of a place, and a SLOT for it that takes every raw number.
+pub fn own_rows(place: u16, form: u8, width: u8) -> (Prn, Slot) {
+    let number = OWN_SLOT + place;
+    let prn = Prn::new(OWN_PRN + place, form, width, number);
+    (prn, whole_slot(form, width, number))
+}
+
+/// Unscaled, with every raw number of the width inside its limits.
+pub fn whole_slot(form: u8, width: u8, number: u16) -> Slot {
+    let (mut lowest, mut highest) = (0, all_ones(width));
+    if form == crate::sae::form::SNM {
+        highest >>= 1;
+        lowest = !highest;
+    }
+    Slot {
+        form,
+        width,
+        number,
+        multiplier: 1,
+        divisor: 1,
+        offset: 0,
+        lowest,
+        highest,
+    }
+}
+
+#[derive(Clone, Debug)]
+pub struct Scene {
+    pub frame: Draft,
+    pub layout: Layout,
+    pub prns: Vec<Prn>,
+    pub slots: Vec<Slot>,
+    /// Where the next item starts, in bits after the selector.
+    pub end: usize,
+}
+
+impl Scene {
+    /// The layout that the frame seeks, as yet without PRNs.
+    pub fn of(frame: Draft) -> Scene {
+        let layout = Layout::of_key(layout_key(&parts_of(&frame)));
+        Scene {
+            frame,
+            layout,
+            prns: Vec::new(),
+            slots: Vec::new(),
+            end: 0,
+        }
+    }
+
+    /// A frame with just enough data for the samples, and zero fill up to the
+    /// byte's end.
+    pub fn holding(first_byte: u8, samples: &[Sample], random: &mut Random) -> Scene {
+        let bits: usize = samples.iter().map(Sample::width).sum();
+        let mut scene = Scene::of(frame(first_byte, 1 + bits.div_ceil(8), random));
+        for sample in samples {
+            scene.add(sample);
+        }
+        if bits % 8 != 0 && samples.len() < PLACES {
+            scene.add(&Sample::pad(8 - bits % 8));
+        }
+        scene
+    }
+
+    /// How many bits the frame has after its selector.
+    pub fn bits(&self) -> usize {
+        8 * self.frame.data.len().saturating_sub(1)
+    }
+
+    /// The next item; its bits are put in their place if the data hold them.
+    pub fn add(&mut self, sample: &Sample) {
+        let mut prns = self.layout.used().to_vec();
+        prns.push(sample.prn);
+        self.layout = self.layout.with_prns(&prns);
+        let (start, width) = (self.end, sample.width());
+        if width > 0 && start + width <= self.bits() {
+            put(&mut self.frame.data[1..], start, width, sample.raw);
+        }
+        self.end += width;
+        let is_new = |prn: &Prn| !has_prn(prn.prn) && !self.prns.contains(prn);
+        self.prns.extend(sample.row.filter(is_new));
+        let is_new = |slot: &Slot| !has_slot(slot.key()) && !self.has_slot(slot.key());
+        let slot = sample.slot.filter(is_new);
+        self.slots.extend(slot);
+    }
+
+    fn has_slot(&self, key: (u8, u8, u16)) -> bool {
+        self.slots.iter().any(|slot| slot.key() == key)
+    }
+
+    /// The layout first, then PRNs and SLOTs.
+    pub fn records(&self) -> Vec<Bytes> {
+        let mut list = vec![layout_record(&self.layout)];
+        list.extend(self.prns.iter().map(prn_record));
+        list.extend(self.slots.iter().map(slot_record));
+        list
+    }
+
+    pub fn case(&self) -> ReportCase {
+        ReportCase::new(self.records().concat(), self.frame.runs())
+    }
+}
+
+/// The draft as a reader would hand it on.
+pub fn parts_of(frame: &Draft) -> Parts<'_> {
+    Parts {
+        header: &frame.header,
+        data: &frame.data,
+        kind: kind_of_run(&frame.header).unwrap_or(0),
+        response: &frame.response,
+    }
+}
+
+/// This many data bytes and the shortest response of the kind.
+pub fn frame(first_byte: u8, data: usize, random: &mut Random) -> Draft {
+    let response = usize::from(response_kind(first_byte) != Some(0));
+    Draft::of_lengths(first_byte, data, response, random)
+}
+
+/// An unsigned number of this width that takes every raw number.
+pub fn plain(place: u16, width: u8, raw: u64) -> Sample {
+    let (prn, slot) = own_rows(place, UNM, width);
+    Sample::own(prn, Some(slot), raw)
+}
+
+#[cfg(test)]
+#[path = "scene_tests.rs"]
+mod tests;

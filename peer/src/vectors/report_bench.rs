@@ -1,0 +1,214 @@
+//! The bench cases and the easy errors, with the answers that the papers print.
+
+use crate::frame::check_byte::{check_byte, checked};
+use crate::report::case::ReportCase;
+use crate::report::scene::own_rows;
+use crate::sae::form::{SNM, UNM};
+use crate::sae::{prn_row, slot_row, Prn};
+use crate::supplement::draft::{layout_record, prn_record, slot_record, Bytes};
+use crate::supplement::layout::Layout;
+use crate::supplement::refused_answer;
+
+/// A case by name, with its number and its rows.
+pub struct Bench {
+    pub name: &'static str,
+    pub case: ReportCase,
+    pub number: u64,
+    pub rows: Vec<u8>,
+}
+
+fn accepted(name: &'static str, case: ReportCase, rows: &[&[u8]]) -> Bench {
+    let rows = rows.concat();
+    Bench {
+        name,
+        case,
+        number: (rows.len() as u64) << 8,
+        rows,
+    }
+}
+
+fn refused(name: &'static str, case: ReportCase, number: u64) -> Bench {
+    let rows = Vec::new();
+    Bench {
+        name,
+        case,
+        number,
+        rows,
+    }
+}
+
+pub fn all() -> Vec<Bench> {
+    let groups = [
+        whole_reports(),
+        full_frames(),
+        values(),
+        frames_refused(),
+        easy_errors(),
+    ];
+    groups.into_iter().flatten().collect()
+}
+
+/// The layout of the whole report's frames with other PRNs.
+fn layout(prns: &[u16]) -> Bytes {
+    layout_record(&Layout::of_key([0x08, 0x6B, 1, 0x41]).with_prns(prns))
+}
+
+/// A frame of the whole report's header and selector with these items.
+fn case(supplement: Vec<u8>, items: &[u8]) -> ReportCase {
+    let first = checked(&[&[0x48, 0x6B, 0x10, 0x41], items].concat());
+    ReportCase::new(supplement, (first, Vec::new()))
+}
+
+fn number(value: f64) -> Vec<u8> {
+    [&[1], &value.to_be_bytes()[..]].concat()
+}
+
+const FIRST_ITEM: [u8; 9] = [1, 0x40, 0x59, 0x40, 0, 0, 0, 0, 0];
+const SECOND_ITEM: [u8; 9] = [1, 0, 0, 0, 0, 0, 0, 0, 0];
+const CLEAR: [u8; 6] = [9, 0, 10, 0, 11, 1];
+/// After an Invalid line.
+const FLAGGED: [u8; 6] = [9, 0, 10, 0, 11, 2];
+
+fn whole_reports() -> Vec<Bench> {
+    let supplement = layout(&[0x1025, 0x100B]);
+    let whole = case(supplement.clone(), &[0x65, 0x80]);
+    let rows = [&FIRST_ITEM[..], &SECOND_ITEM, &CLEAR];
+    let left = [&FIRST_ITEM[..], &SECOND_ITEM, &[9, 8, 10, 0, 11, 2]];
+    let short = [&FIRST_ITEM[..], &[7, 7, 10, 0, 11, 2]];
+    let more = case(supplement.clone(), &[0x65, 0x80, 0x99]);
+    let less = case(supplement, &[0x65]);
+    vec![
+        accepted("whole report", whole.clone(), &rows),
+        accepted("lent 24", whole.clone().lent(24), &rows),
+        accepted("lent 25", whole.clone().lent(25), &rows),
+        refused("lent 23", whole.clone().lent(23), 8),
+        refused("lent nothing", whole.lent(0), 8),
+        accepted("one data byte more", more, &left),
+        accepted("one data byte less", less, &short),
+    ]
+}
+
+/// Twelve bytes in all, in both forms.
+fn full_frames() -> Vec<Bench> {
+    let items = [0x65, 0x80, 1, 2, 3, 4, 5];
+    let full = case(layout(&[0x1025, 0x100B]), &items);
+    let rows = [&FIRST_ITEM[..], &SECOND_ITEM, &[9, 40, 10, 0, 11, 2]];
+    let key = [0x18, 0, 1, 0x41];
+    let nine = layout_record(&Layout::of_key(key).with_prns(&[0x1025; 9]));
+    let ten_data = checked(&[0x18, 0x41, 1, 2, 3, 4, 5, 6, 7, 8, 9]);
+    let one_byte_form = ReportCase::new(nine, (ten_data, Vec::new()));
+    let mut counted: Vec<u8> = (1..=9).flat_map(|value| number(value.into())).collect();
+    counted.extend(CLEAR);
+    let bare = layout_record(&Layout::of_key([0x00, 0x6B, 0, 0]));
+    let answered = (checked(&[0x00, 0x6B, 0x10]), vec![7; 8]);
+    vec![
+        accepted("twelve bytes", full, &rows),
+        accepted("ten data bytes with H = 1", one_byte_form, &[&counted]),
+        accepted(
+            "twelve bytes with a response",
+            ReportCase::new(bare, answered),
+            &[&[9, 0, 10, 2, 11, 1]],
+        ),
+    ]
+}
+
+/// An item by a PRN of the supplement that names a SLOT of the SAE tables.
+fn of_slot(width: u8, slot: u16, items: &[u8]) -> ReportCase {
+    let prn = prn_record(&Prn::new(0x2000, UNM, width, slot));
+    case([layout(&[0x2000]), prn].concat(), items)
+}
+
+fn signed(raw: u8) -> ReportCase {
+    let (prn, slot) = own_rows(0, SNM, 8);
+    let records = [layout(&[prn.prn]), prn_record(&prn), slot_record(&slot)];
+    case(records.concat(), &[raw])
+}
+
+fn values() -> Vec<Bench> {
+    let clear = |name, case, value: f64| accepted(name, case, &[&number(value), &CLEAR]);
+    let invalid = |name, case, raw: u8| accepted(name, case, &[&[6, 0, 0, 0, raw], &FLAGGED]);
+    vec![
+        clear("P1", of_slot(8, 77, &[150]), 100.0),
+        invalid("P2", of_slot(8, 77, &[151]), 151),
+        clear("P3", of_slot(8, 82, &[240]), 90.0),
+        invalid("P4", of_slot(8, 82, &[241]), 241),
+        clear("P5", of_slot(8, 92, &[0]), -100.0),
+        clear("P6", of_slot(8, 92, &[128]), 0.0),
+        clear("P7", of_slot(16, 3, &[0, 0]), -70.0),
+        clear("P8", of_slot(8, 102, &[39]), -1.0),
+        clear("P9", signed(0x80), -128.0),
+        clear("P10", signed(0xFF), -1.0),
+        clear("UNM-08-111 at 240", of_slot(8, 111, &[240]), 360.0),
+        invalid("UNM-08-111 at 241", of_slot(8, 111, &[241]), 241),
+        clear("UNM-08-241 at 25", of_slot(8, 241, &[25]), 102400.0),
+        clear("UNM-08-241 at 26", of_slot(8, 241, &[26]), 106496.0),
+        clear("UNM-08-241 at 255", of_slot(8, 241, &[255]), 1044480.0),
+        clear("UNM-16-61 at 65535", of_slot(16, 61, &[255, 255]), 4194240.0),
+        clear("UNM-08-73 at 0", of_slot(8, 73, &[0]), -40.0),
+        clear("UNM-08-77 at 149", of_slot(8, 77, &[149]), 298.0 / 3.0),
+    ]
+}
+
+fn frames_refused() -> Vec<Bench> {
+    let with_first = |first: Vec<u8>| ReportCase::new(layout(&[]), (first, Vec::new()));
+    let long = checked(&[0x18; 12]);
+    vec![
+        refused("P11", with_first(Vec::new()), 2),
+        refused("P12", with_first(vec![0x08, 0x6B, 0x10]), 2),
+        refused("P13", with_first(long), 1),
+    ]
+}
+
+fn easy_errors() -> Vec<Bench> {
+    let missing = case(layout(&[0x1025, 0x2000, 0x1025, 0x100B]), &[0x65, 1, 2, 3]);
+    let lost = [8, 1, 8, 2, 8, 2, 8, 2, 10, 0, 11, 3];
+    let first = checked(&[0x13, 0x41]);
+    let bare = layout_record(&Layout::of_key([0x13, 0, 1, 0x41]));
+    let over_data = checked(&[0xAB, 0xCD]);
+    let over_frame = vec![0xAB, 0xCD, check_byte(&[&first[..], &[0xAB, 0xCD]].concat())];
+    let kind_3 = |response| ReportCase::new(bare.clone(), (first.clone(), response));
+    let prn = Prn {
+        number: 102,
+        ..prn_row(0x1025).expect("an SAE row")
+    };
+    let mut slot = slot_row((UNM, 8, 101)).expect("an SAE row");
+    slot.offset = 1;
+    let over_sae = |record: Bytes| case([layout(&[0x1025]), record].concat(), &[0x65]);
+    vec![
+        accepted("a PRN of no table", missing, &[&FIRST_ITEM, &lost]),
+        accepted(
+            "check byte over the response's data",
+            kind_3(over_data),
+            &[&[9, 0, 8, 7, 11, 3]],
+        ),
+        refused("check byte over the whole frame", kind_3(over_frame), 6),
+        refused("an SAE PRN again", over_sae(prn_record(&prn)), refused_answer(15, 38)),
+        refused("an SAE SLOT again", over_sae(slot_record(&slot)), refused_answer(15, 38)),
+    ]
+}
+
+#[cfg(test)]
+mod tests {
+    use super::*;
+
+    #[test]
+    fn the_rules_give_what_is_printed() {
+        for bench in all() {
+            let expected = (bench.number, bench.rows);
+            assert_eq!(bench.case.answer(), expected, "{}", bench.name);
+        }
+    }
+
+    #[test]
+    fn names_and_lengths() {
+        let list = all();
+        assert_eq!(list[0].rows.len(), 24);
+        assert_eq!(list[0].case.first[..6], [0x48, 0x6B, 0x10, 0x41, 0x65, 0x80]);
+        for (place, bench) in list.iter().enumerate() {
+            assert!(list[..place].iter().all(|other| other.name != bench.name));
+            assert!(list[..place].iter().all(|other| other.case != bench.case));
+        }
+        let full = list.iter().find(|bench| bench.name == "twelve bytes").unwrap();
+        assert_eq!(full.case.first.len(), 12);
+    }
+}

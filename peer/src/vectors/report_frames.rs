@@ -1,0 +1,285 @@
+//! Frames and layouts that meet or miss each other, refusals in their order,
+//! and lent outputs of each length.
+
+use crate::frame::check_byte::checked;
+use crate::random::Random;
+use crate::report::case::{ReportCase, LONGEST};
+use crate::report::scene::{frame, own_rows, Sample, Scene};
+use crate::report::scene_random::scene;
+use crate::sae::form::UNM;
+use crate::sae::{Prn, PRNS, SLOTS};
+use crate::supplement::draft::{
+    distinct, kinds_of_length, layout_record, prn_record, slot_record, Bytes, Layouts,
+};
+use crate::supplement::layout::Layout;
+use crate::supplement::{refusal, MOST_BYTES};
+
+/// The longest output that a case lends.
+pub const MOST_LENT: usize = 158;
+
+pub fn cases(random: &mut Random) -> Vec<ReportCase> {
+    let groups = [
+        first_bytes(random),
+        kinds(random),
+        near_keys(random),
+        refusals(random),
+        high_places(random),
+        sizes(random),
+        lent(random),
+        lent_longest(random),
+        random_scenes(random),
+    ];
+    groups.into_iter().flatten().collect()
+}
+
+/// Each first byte with a layout for it.
+fn first_bytes(random: &mut Random) -> Vec<ReportCase> {
+    let items = [Sample::sae(0x1025, 0x65)];
+    (0..=255)
+        .map(|first_byte| Scene::holding(first_byte, &items, random).case())
+        .collect()
+}
+
+/// Each kind and form, with and without data, with the response at its
+/// shortest and longer.
+fn kinds(random: &mut Random) -> Vec<ReportCase> {
+    let mut list = Vec::new();
+    for first_byte in crate::frame::draft::FIRST_BYTES {
+        for data in [0, 1, 2] {
+            let mut scene = Scene::of(frame(first_byte, data, random));
+            list.push(scene.case());
+            scene.add(&Sample::sae(0x1025, 0x65));
+            list.push(scene.case());
+            list.push(ReportCase::new(Vec::new(), scene.frame.runs()));
+            let more = random.bytes(2);
+            scene.frame.response.extend(more);
+            list.push(scene.case());
+        }
+    }
+    list
+}
+
+/// Layouts one field away from the one sought, without it and around it.
+fn near_keys(random: &mut Random) -> Vec<ReportCase> {
+    let mut list = Vec::new();
+    for first_byte in [0x18, 0xF8, 0x48, 0xE8, 0x00, 0x12] {
+        for data in [0, 2] {
+            let scene = Scene::of(frame(first_byte, data, random));
+            let sought = scene.layout.with_prns(&[0x1025]);
+            let near: Vec<Bytes> = near_layouts(&sought).iter().map(layout_record).collect();
+            let sought = layout_record(&sought);
+            for (place, other) in near.iter().enumerate() {
+                let mut all = near.clone();
+                all.insert(place, sought.clone());
+                list.push(ReportCase::new(other.clone(), scene.frame.runs()));
+                if place < 3 {
+                    list.push(ReportCase::new(all.concat(), scene.frame.runs()));
+                }
+            }
+        }
+    }
+    list
+}
+
+/// Acceptable layouts that differ from this one in one field of the key.
+fn near_layouts(sought: &Layout) -> Vec<Layout> {
+    let mut list = Vec::new();
+    let mut add = |change: &dyn Fn(&mut Layout)| {
+        let mut layout = *sought;
+        change(&mut layout);
+        if crate::supplement::answer(&layout_record(&layout)) == 0 {
+            list.push(layout);
+        }
+    };
+    for bit in 0..8 {
+        add(&|layout| layout.first_byte ^= 1 << bit);
+    }
+    add(&|layout| layout.target ^= 0x01);
+    add(&|layout| layout.target ^= 0x80);
+    add(&|layout| layout.selector ^= 0x01);
+    add(&|layout| layout.selector ^= 0x80);
+    add(&|layout| layout.present ^= 1);
+    add(&|layout| (layout.present, layout.selector) = (0, 0));
+    list
+}
+
+/// Runs that the reader refuses so, or accepts.
+fn runs(number: u8, random: &mut Random) -> (Vec<u8>, Vec<u8>) {
+    let mut sound = checked(&[0x48, 0x6B, 0x10, 0x41, 0x65, 0x80]);
+    match number {
+        1 => (checked(&random.bytes(12)), Vec::new()),
+        2 => (Vec::new(), Vec::new()),
+        3 => {
+            sound[4] ^= 1;
+            (sound, Vec::new())
+        }
+        4 => (checked(&[0x05, 0x6B, 0x10]), Vec::new()),
+        5 => (checked(&[0x00, 0x6B, 0x10]), Vec::new()),
+        6 => (checked(&[0x13, 0x41]), vec![7, 7]),
+        _ => (sound, Vec::new()),
+    }
+}
+
+/// A record that is refused so after the layout of the whole report.
+fn faulty_record(number: u8) -> Bytes {
+    match number {
+        refusal::UNKNOWN_KIND => vec![4],
+        refusal::CUT => vec![2, 0x20, 0x00],
+        refusal::RANGE => prn_record(&Prn::new(0x2000, 0, 8, 101)),
+        refusal::SEEN_BEFORE => bench_layout(),
+        _ => slot_record(&SLOTS[30]),
+    }
+}
+
+fn bench_layout() -> Bytes {
+    let layout = Layout::of_key([0x08, 0x6B, 1, 0x41]);
+    layout_record(&layout.with_prns(&[0x1025, 0x100B]))
+}
+
+/// Each refusal of the supplement beside each of the frame, with an output
+/// lent and without.
+fn refusals(random: &mut Random) -> Vec<ReportCase> {
+    let mut list = Vec::new();
+    for of_frame in 0..=6 {
+        for out_length in [0, 5, LONGEST] {
+            let sound = ReportCase::new(bench_layout(), runs(of_frame, random));
+            list.push(sound.clone().lent(out_length));
+            for number in refusal::UNKNOWN_KIND..=refusal::IN_SAE {
+                let mut case = sound.clone().lent(out_length);
+                case.supplement.extend(faulty_record(number));
+                list.push(case);
+            }
+        }
+    }
+    let prn_again = [bench_layout(), prn_record(&PRNS[100])].concat();
+    list.push(ReportCase::new(prn_again, runs(0, random)));
+    list
+}
+
+/// Each refusal of the supplement at a place of two bytes.
+fn high_places(random: &mut Random) -> Vec<ReportCase> {
+    let mut list = Vec::new();
+    for number in refusal::UNKNOWN_KIND..=refusal::IN_SAE {
+        let kinds = kinds_of_length(250 + usize::from(number), Layouts::Few, random);
+        let mut records = distinct(&kinds, random);
+        records.push(match number {
+            refusal::SEEN_BEFORE => records[0].clone(),
+            _ => faulty_record(number),
+        });
+        list.push(ReportCase::new(records.concat(), runs(0, random)));
+    }
+    list
+}
+
+/// Supplements as long as can be and longer.
+fn sizes(random: &mut Random) -> Vec<ReportCase> {
+    let layout = bench_layout();
+    let mut others = kinds_of_length(MOST_BYTES - layout.len(), Layouts::Few, random);
+    others.sort();
+    let mut records = distinct(&others, random);
+    records.push(layout);
+    let most = records.concat();
+    let longer = [&most[..], &[9]].concat();
+    let with_runs = |supplement: &[u8], number: u8, random: &mut Random| {
+        ReportCase::new(supplement.to_vec(), runs(number, random))
+    };
+    vec![
+        with_runs(&most, 0, random),
+        with_runs(&longer, 0, random),
+        with_runs(&longer, 3, random),
+        with_runs(&longer, 0, random).lent(0),
+    ]
+}
+
+/// Reports of many lengths with outputs about their length.
+fn lent(random: &mut Random) -> Vec<ReportCase> {
+    let mut list = Vec::new();
+    for _ in 0..25 {
+        let case = scene(random).case();
+        let need = case.need().expect("an accepted scene");
+        for out_length in [need - 1, need, need + 1, MOST_LENT] {
+            list.push(case.clone().lent(out_length));
+        }
+    }
+    list
+}
+
+/// The longest report with every length lent.
+fn lent_longest(random: &mut Random) -> Vec<ReportCase> {
+    let prn = Prn::new(0x2000, UNM, 4, 1);
+    let items: Vec<Sample> = (0..16).map(|raw| Sample::own(prn, None, raw)).collect();
+    let case = Scene::holding(0x18, &items, random).case();
+    (0..=MOST_LENT)
+        .map(|out_length| case.clone().lent(out_length))
+        .collect()
+}
+
+/// Random scenes, now and then without one of their records or with a bit
+/// turned over.
+fn random_scenes(random: &mut Random) -> Vec<ReportCase> {
+    let mut list = Vec::new();
+    while list.len() < 380 {
+        let scene = scene(random);
+        let mut records = scene.records();
+        if random.once_in(3) {
+            records.remove(random.below(records.len()));
+        }
+        if records.len() > 6 {
+            continue;
+        }
+        let mut case = ReportCase::new(records.concat(), scene.frame.runs());
+        if random.once_in(6) {
+            let runs = [&mut case.supplement, &mut case.first, &mut case.response];
+            let [a, b, c] = runs;
+            let run = match random.below(3) {
+                0 => a,
+                1 => b,
+                _ => c,
+            };
+            turn_bit(run, random);
+        }
+        list.push(case.lent(random.pick(&[LONGEST, LONGEST, 60, MOST_LENT])));
+    }
+    list
+}
+
+fn turn_bit(run: &mut [u8], random: &mut Random) {
+    if !run.is_empty() {
+        let place = random.below(run.len());
+        run[place] ^= 1 << random.below(8);
+    }
+}
+
+#[cfg(test)]
+mod tests {
+    use super::*;
+    use crate::frame::reader;
+
+    #[test]
+    fn runs_are_refused_as_they_say() {
+        let mut random = Random::new(81);
+        for number in 0..=6 {
+            let (first, response) = runs(number, &mut random);
+            let refusals = reader::refusals(&first, &response);
+            assert_eq!(refusals.first().copied().unwrap_or(0), number);
+        }
+    }
+
+    #[test]
+    fn records_are_refused_as_they_say() {
+        for number in 11..=15 {
+            let supplement = [bench_layout(), faulty_record(number)].concat();
+            let answer = crate::supplement::answer(&supplement);
+            assert_eq!(answer, u64::from(number) | 38 << 8);
+        }
+    }
+
+    #[test]
+    fn own_rows_are_in_no_sae_table() {
+        for place in 0..20 {
+            let (prn, slot) = own_rows(place, UNM, 8);
+            assert!(!crate::sae::has_prn(prn.prn));
+            assert!(!crate::sae::has_slot(slot.key()));
+        }
+    }
+}
