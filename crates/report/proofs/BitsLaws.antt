@@ -1,0 +1,38 @@
+-- Laws of the bits of an item.
+use mathlib.Core.Path.{_≡_}
+use mathlib.Core.List.{List}
+use Prim.Native.Nat.{ℕ, zero, suc, _+_, _-_, _*_, _/_, _%_, _^_, _≤_, _<_}
+use native.Mathlib.Nat.{zero-div, lt-of-lt-of-le}
+use native.Mathlib.Numerals.{add-one}
+use native.Mathlib.Omega.{arith}
+use lib.Bits.{bitAnd, and-mask}
+use lib.ListN.{length, getD, List·getD-eq-default}
+use lib.Pow.{pow-mono}
+use Rattle.report.specs.Bits.{bitAt, cut}
+
+-- A bit is 0 or 1; it is the byte moved down and masked; past the end it is 0.
+pub bit-lt : (s : List ℕ) (i : ℕ) → bitAt s i < 2
+unfolding bitAt
+bit-lt s i = omega arith
+
+pub bit-masked : (s : List ℕ) (i : ℕ) → bitAnd (getD s (i / 8) 0 / 2 ^ (7 - i % 8)) 1 ≡ bitAt s i
+unfolding bitAt
+bit-masked s i = and-mask (getD s (i / 8) 0 / 2 ^ (7 - i % 8)) 1
+
+pub bit-past : (s : List ℕ) (i : ℕ) → length s ≤ i / 8 → 0 ≡ bitAt s i
+unfolding bitAt
+bit-past s i h = rw (List·getD-eq-default s 0 {n = i / 8} h, zero-div)
+
+-- So many bits make a number below that power of 2.
+pub cut-lt : (s : List ℕ) (at w : ℕ) → cut s at w < 2 ^ w
+unfolding cut
+cut-lt s at zero = omega arith
+cut-lt s at (suc w) = omega (arith, cut-lt s at w, bit-lt s (at + w))
+
+-- One bit more, as the loop takes it.
+pub cut-next : (s : List ℕ) (at w : ℕ) → cut s at w * 2 + bitAt s (at + w) ≡ cut s at (w + 1)
+unfolding cut
+cut-next s at w = rw add-one
+
+pub cut-below : (s : List ℕ) (at w k : ℕ) → w ≤ k → cut s at w < 2 ^ k
+cut-below s at w k h = lt-of-lt-of-le (cut-lt s at w) (pow-mono h)

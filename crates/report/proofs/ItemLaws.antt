@@ -1,0 +1,160 @@
+-- Laws of an item's line and of the place behind it.
+use mathlib.Core.Path.{_≡_, refl, sym, ap, _∙_, subst}
+use mathlib.Core.Bool.{Bool, true, false, cond}
+use mathlib.Core.List.{List, [], _∷_, _++_}
+use mathlib.Core.Option.{Option, none, some}
+use Prim.Native.Nat.{ℕ, zero, suc, _+_, _*_, _/_, _%_, _^_, _≤_, _<_}
+use native.Mathlib.Omega.{arith}
+use borrow.Author.Tests.{le-leb, lt-leb, lt-ltb, le-ltb, ltb-false, eq-eqb, ne-eqb}
+use lib.Dec.{ltb, leb, eqb}
+use native.Mathlib.Numerals.{add-one}
+use lib.ListN.{length, take, getD, set, length-set}
+use lib.Seq.{take-suc}
+use Rattle.frame.proofs.Bytes.{cases}
+use Rattle.sae.specs.declared.sae.PrnRow.{PrnRow}
+use Rattle.sae.specs.declared.sae.SlotRow.{SlotRow}
+use Rattle.catalogue.specs.Lookup.{Catalogue}
+use Rattle.report.specs.declared.items.Place.{Place}
+use Rattle.report.specs.declared.items.Place.the-variants.{Bit, Lost, Past}
+use Rattle.report.specs.declared.line.Held.{Held}
+use Rattle.report.specs.declared.line.Line.{Line}
+use Rattle.report.specs.declared.line.Line.the-variants.{Short, Unknown, Left}
+use Rattle.report.specs.Scaling.{formLine, numberLine, withinLimits, digitsPass, printable, decimal}
+use Rattle.sae.specs.Rows.{SNM, SED, BMP, ASC}
+use Rattle.report.proofs.ScalingLaws.{number-not-nan}
+use Rattle.report.specs.Items.{overruns, slotLine, rowLine, rowNext, itemLine, next, itemLines, placeAfter, Inside}
+use Rattle.report.specs.Report.{Message, layoutSought, remainderAt}
+use Rattle.report.specs.Rows.{holdsNumber, allHold, firstLines}
+
+pub form-high : (form width : ℕ) (slot : SlotRow) (raw : ℕ) → 7 ≤ form → formLine form width slot raw ≡ Unknown 4
+unfolding formLine
+form-high form width slot raw h = rw (le-leb 7 form h)
+
+pub form-wide : (form width : ℕ) (slot : SlotRow) (raw : ℕ) → form < 7 → 32 < width → formLine form width slot raw ≡ Unknown 6
+unfolding formLine
+form-wide form width slot raw h w = rw (lt-leb 7 form h, lt-ltb 32 width w)
+
+-- An item that ends past the data, and one that does not.
+module _ (c : Catalogue) (row : PrnRow) (items : List ℕ) (at : ℕ) where
+  pub row-short : 8 * length items < at + row .width → (rowLine c (some row) items at ≡ Short) × (rowNext (some row) items at ≡ Past)
+  unfolding rowLine rowNext
+  row-short h = let t = lt-ltb (8 * length items) (at + row .width) h in (rw t, rw t)
+
+  pub row-whole :
+      at + row .width ≤ 8 * length items
+      → (rowLine c (some row) items at ≡ slotLine (c .slot (row .form) (row .width) (row .slot)) row items at)
+      × (rowNext (some row) items at ≡ Bit (at + row .width))
+  unfolding rowLine rowNext
+  row-whole h = let t = le-ltb (8 * length items) (at + row .width) h in (rw t, rw t)
+
+-- A place stays within the items.
+row-inside : (o : Option PrnRow) (items : List ℕ) (at : ℕ) → Inside items (rowNext o items at)
+unfolding rowNext
+row-inside none items at = tt
+row-inside (some row) items at =
+    cases (overruns row items at) (λ t. rw t tt) (λ f. rw f (ltb-false (8 * length items) (at + row .width) f))
+
+pub next-inside : (c : Catalogue) (items : List ℕ) (p : Place) (prn : ℕ) → Inside items p → Inside items (next c items p prn)
+unfolding next
+next-inside c items (Bit at) prn h = row-inside (c .prn prn) items at
+next-inside c items Lost prn h = tt
+next-inside c items Past prn h = tt
+
+-- One PRN more: one line more, from the place behind the others.
+module _ (c : Catalogue) (items : List ℕ) where
+  pub lines-snoc :
+      (prns : List ℕ) (prn : ℕ) (p : Place)
+      → itemLines c items p (prns ++ prn ∷ []) ≡ itemLines c items p prns ++ itemLine c items (placeAfter c items p prns) prn ∷ []
+  unfolding itemLines placeAfter
+  lines-snoc [] prn p = refl
+  lines-snoc (q ∷ prns) prn p = ap (λ (ls : List Line). itemLine c items p q ∷ ls) (lines-snoc prns prn (next c items p q))
+
+  pub place-snoc : (prns : List ℕ) (prn : ℕ) (p : Place) → placeAfter c items p (prns ++ prn ∷ []) ≡ next c items (placeAfter c items p prns) prn
+  unfolding placeAfter
+  place-snoc [] prn p = refl
+  place-snoc (q ∷ prns) prn p = place-snoc prns prn (next c items p q)
+
+-- One line more in the array.
+pub held-set : (held : List Held) (i : ℕ) (h : Held) → i < length held → firstLines (suc i) (set held i h) ≡ firstLines i held ++ h .line ∷ []
+held-set [] i h l = absurd (omega arith)
+held-set (x ∷ held) zero h l = refl
+held-set (x ∷ held) (suc i) h l = ap (λ (ls : List Line). x .line ∷ ls) (held-set held i h (omega arith))
+
+pub numbers-snoc : (ls : List Line) (l : Line) → allHold ls → holdsNumber l → allHold (ls ++ l ∷ [])
+unfolding allHold
+numbers-snoc [] l a h = (h, tt)
+numbers-snoc (x ∷ ls) l a h = (a .0, numbers-snoc ls l (a .1) h)
+
+-- The first i lines stand in the array, and the place is the one behind them.
+pub record Filled (c : Catalogue) (items prns : List ℕ) (lines : List Held) (place : Place) (i : ℕ) : Type 0 where
+  pub shown : firstLines i lines ≡ itemLines c items (Bit 0) (take i prns)
+  pub moved : place ≡ placeAfter c items (Bit 0) (take i prns)
+  pub inside : Inside items place
+  pub number : allHold (firstLines i lines)
+  pub size : length lines ≡ 16
+
+module _ (c : Catalogue) (items prns : List ℕ) where
+  pub started : (lines : List Held) → length lines ≡ 16 → Filled c items prns lines (Bit 0) 0
+  unfolding itemLines placeAfter allHold
+  started lines e = record { shown = refl; moved = refl; inside = omega arith; number = tt; size = e }
+
+  pub one-more :
+      (lines : List Held) (place : Place) (i : ℕ)
+      → Filled c items prns lines place i
+      → i < 16
+      → length prns ≡ 16
+      → (line : Line) (place′ : Place)
+      → line ≡ itemLine c items place (getD prns i 0)
+      → place′ ≡ next c items place (getD prns i 0)
+      → holdsNumber line
+      → Filled c items prns (set lines i (record { line = line })) place′ (i + 1)
+  one-more lines place i f h e line place′ p q n =
+      let prn : ℕ = getD prns i 0 in
+      let more : take (i + 1) prns ≡ take i prns ++ prn ∷ [] = ap (λ (k : ℕ). take k prns) (add-one i) ∙ take-suc prns i 0 (omega arith) in
+      let held : firstLines (i + 1) (set lines i (record { line = line })) ≡ firstLines i lines ++ line ∷ [] =
+      ap (λ (k : ℕ). firstLines k (set lines i (record { line = line }))) (add-one i) ∙ held-set lines i (record { line = line }) (omega (arith, f .size)) in
+      record {
+        shown =
+            held
+            ∙ (λ j. f .shown j ++ (p ∙ ap (λ (r : Place). itemLine c items r prn) (f .moved)) j ∷ [])
+            ∙ sym (ap (itemLines c items (Bit 0)) more ∙ lines-snoc c items (take i prns) prn (Bit 0));
+        moved =
+            q ∙ ap (λ (r : Place). next c items r prn) (f .moved) ∙ sym (ap (placeAfter c items (Bit 0)) more ∙ place-snoc c items (take i prns) prn (Bit 0));
+        inside = subst (Inside items) (sym q) (next-inside c items place prn (f .inside));
+        number = subst allHold (sym held) (numbers-snoc (firstLines i lines) line (f .number) n);
+        size = length-set lines i (record { line = line }) ∙ f .size;
+      }
+
+-- The layout sought, with a selector and without.
+pub sought-absent : (c : Catalogue) (m : Message) → length (m .body) ≡ 0 → layoutSought c m ≡ c .layout (m .first) (m .target) 0 0
+unfolding layoutSought
+sought-absent c m e = rw (eq-eqb (length (m .body)) 0 e)
+
+pub sought-present : (c : Catalogue) (m : Message) → (length (m .body) ≡ 0 → ⊥) → layoutSought c m ≡ c .layout (m .first) (m .target) 1 (getD (m .body) 0 0)
+unfolding layoutSought
+sought-present c m e = rw (ne-eqb (length (m .body)) 0 e)
+
+-- The line of a form holds no NaN if the divisor is not 0.
+pub form-holds : (form width : ℕ) (slot : SlotRow) (raw : ℕ) → 1 ≤ slot .divisor → slot .divisor < 2 ^ 16 → holdsNumber (formLine form width slot raw)
+unfolding formLine numberLine
+form-holds form width slot raw h l =
+    cases (leb 7 form) (λ t. rw t tt)
+    (λ f1.
+    cases (ltb 32 width) (λ t. rw (f1, t) tt)
+    (λ f2.
+    cases (leb form SNM)
+    (λ t3. cases (withinLimits slot raw) (λ t. rw (f1, f2, t3, t) (number-not-nan slot raw h l)) (λ t. rw (f1, f2, t3, t) tt))
+    (λ f3.
+    cases (eqb form SED) (λ t4. cases (withinLimits slot raw) (λ t. rw (f1, f2, f3, t4, t) tt) (λ t. rw (f1, f2, f3, t4, t) tt))
+    (λ f4.
+    cases (eqb form BMP) (λ t. rw (f1, f2, f3, f4, t) tt)
+    (λ f5.
+    cases (eqb form ASC)
+    (λ t6.
+    cases (eqb (width % 8) 0)
+    (λ w. cases (digitsPass printable 8 (width / 8) raw) (λ t. rw (f1, f2, f3, f4, f5, t6, w, t) tt) (λ t. rw (f1, f2, f3, f4, f5, t6, w, t) tt))
+    (λ w. rw (f1, f2, f3, f4, f5, t6, w) tt))
+    (λ f6.
+    cases (eqb (width % 4) 0)
+    (λ w. cases (digitsPass decimal 4 (width / 4) raw) (λ t. rw (f1, f2, f3, f4, f5, f6, w, t) tt) (λ t. rw (f1, f2, f3, f4, f5, f6, w, t) tt))
+    (λ w. rw (f1, f2, f3, f4, f5, f6, w) tt)))))))

@@ -1,0 +1,8 @@
+-- Laws that belong to no one function.
+pub mod KeptLaws
+pub mod VerdictLaws
+pub mod DemandThree
+pub mod BitsLaws
+pub mod ScalingLaws
+pub mod ItemLaws
+pub mod RowsLaws

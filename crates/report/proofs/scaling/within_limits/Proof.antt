@@ -1,0 +1,38 @@
+-- One limit after the other, both of the pattern.
+use mathlib.Core.Path.{sym, ap, _∙_}
+use Prim.Native.Nat.{ℕ}
+use borrow.Author.Tests.{not-true, not-false}
+use Rattle.sae.specs.Rows.{inOrder}
+use Rattle.report.proofs.ScalingLaws.{below-lowest, not-below}
+use borrow.Author.Needs.{needs}
+use Rattle.report.proofs.scaling.within_limits.Statement.{statement}
+use Rattle.report.proofs.scaling.within_limits.Tie as tie
+
+pattern-of-requires : tie.Need-pattern-of-requires
+pattern-of-requires c κs = search needs
+
+in-order-requires : tie.Need-in-order-requires
+in-order-requires c κs = search needs
+
+returns : tie.Need-returns
+returns c =
+    let a = c .before .before .before .args in
+    let e = ap (inOrder (a .slot .form) (a .slot .lowest)) (sym (c .before .before .pattern-of .ensures)) ∙ sym (c .before .in-order .ensures) in
+    sym (below-lowest (a .slot) (a .raw) (e ∙ not-true _ (c .if1 .taken)))
+
+in-order-requires-2 : tie.Need-in-order-requires-2
+in-order-requires-2 c κs = search needs
+
+returns-2 : tie.Need-returns-2
+returns-2 c =
+    let a = c .before .before .before .before .args in
+    let p = c .before .before .before .pattern-of .ensures in
+    let e = ap (inOrder (a .slot .form) (a .slot .lowest)) (sym p) ∙ sym (c .before .before .in-order .ensures) in
+    c .in-order2 .ensures
+    ∙ ap (λ (n : ℕ). inOrder (a .slot .form) n (a .slot .highest)) p
+    ∙ sym (not-below (a .slot) (a .raw) (e ∙ not-false _ (c .before .if1 .left)))
+
+pub within-limits-spec : {M : Type 1} → statement M
+within-limits-spec =
+    tie.close
+    (tie.spec pattern-of-requires in-order-requires returns in-order-requires-2 returns-2)

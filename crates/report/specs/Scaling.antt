@@ -1,0 +1,59 @@
+-- The line of an item whose SLOT is known: document 01, "The report", by form.
+use Prim.Native.Nat.{ℕ, zero, suc, _+_, _-_, _*_, _/_, _%_, _^_}
+use mathlib.Core.Bool.{Bool, true, cond, _&&_}
+use lib.Dec.{eqb, leb, ltb}
+use lib.IntN.{ℤ, pos, negℤ, _+ℤ_, _*ℤ_}
+use lib.Ieee.{binary64, ofInt, div}
+use Rattle.sae.specs.declared.sae.SlotRow.{SlotRow}
+use Rattle.sae.specs.Rows.{UNM, SNM, SED, BMP, ASC, BCD, inOrder}
+use Rattle.report.specs.declared.line.Line.{Line}
+use Rattle.report.specs.declared.line.Line.the-variants.{Number, State, Bits, Text, Digits, Invalid, Short, Unknown, Left, Answered}
+
+-- The number of a 32-bit pattern in two's complement.
+unfoldable pub signed : ℕ → ℤ
+signed p = cond (ltb p (2 ^ 31)) (pos p) (negℤ (pos (2 ^ 32 - p)))
+
+-- The raw number as a 32-bit pattern: for SNM the item's sign bit fills the bits before it.
+unfoldable pub pattern : ℕ → ℕ → ℕ → ℕ
+pattern form width raw = cond (eqb form SNM && leb (2 ^ (width - 1)) raw) (raw + (2 ^ 32 - 2 ^ width)) raw
+
+-- N: "the raw number; for SNM, two's complement".
+unfoldable pub rawNumber : ℕ → ℕ → ℕ → ℤ
+rawNumber form width raw = cond (eqb form SNM) (signed (pattern form width raw)) (pos raw)
+
+-- "(N x multiplier + offset) / divisor": the whole number above the line and the divisor, both held exactly, divided once.
+unfoldable pub above : SlotRow → ℕ → ℤ
+above slot raw = rawNumber (slot .form) (slot .width) raw *ℤ pos (slot .multiplier) +ℤ signed (slot .offset)
+
+unfoldable pub numberLine : SlotRow → ℕ → Line
+numberLine slot raw = Number (div binary64 (ofInt binary64 (above slot raw)) (ofInt binary64 (pos (slot .divisor))))
+
+-- Whether the raw number is within the SLOT's limits, as signed for SNM.
+unfoldable pub withinLimits : SlotRow → ℕ → Bool
+withinLimits slot raw =
+    let p : ℕ = pattern (slot .form) (slot .width) raw in
+    inOrder (slot .form) (slot .lowest) p && inOrder (slot .form) p (slot .highest)
+
+-- Whether each of so many digits of a number, of so many bits each, passes a test.
+unfoldable pub digitsPass : (ℕ → Bool) → ℕ → ℕ → ℕ → Bool
+digitsPass p size zero raw = true
+digitsPass p size (suc n) raw = p (raw % 2 ^ size) && digitsPass p size n (raw / 2 ^ size)
+
+-- 20h to 7Eh; 0 to 9.
+abbrev pub printable : ℕ → Bool
+printable b = leb 0x20 b && leb b 0x7E
+
+abbrev pub decimal : ℕ → Bool
+decimal d = leb d 9
+
+-- The line by form. BMM, SFP and PKT: Unknown 4. Width over 32: Unknown 6.
+unfoldable pub formLine : ℕ → ℕ → SlotRow → ℕ → Line
+formLine form width slot raw =
+    cond (leb 7 form) (Unknown 4)
+    (cond (ltb 32 width) (Unknown 6)
+    (cond (leb form SNM) (cond (withinLimits slot raw) (numberLine slot raw) (Invalid raw))
+    (cond (eqb form SED) (cond (withinLimits slot raw) (State raw) (Unknown 5))
+    (cond (eqb form BMP) (Bits raw)
+    (cond (eqb form ASC)
+    (cond (eqb (width % 8) 0) (cond (digitsPass printable 8 (width / 8) raw) (Text raw) (Invalid raw)) (Unknown 4))
+    (cond (eqb (width % 4) 0) (cond (digitsPass decimal 4 (width / 4) raw) (Digits raw) (Invalid raw)) (Unknown 4)))))))

@@ -1,0 +1,28 @@
+// The bits of an item, cut out of the data at any bit by shift and mask.
+ghost use mathlib.Core.Path.{_≡_};
+ghost use Prim.Native.Nat.{_≤_, _<_};
+ghost use Rattle.report.specs.Bits.{bitAt, cut};
+
+// A bit, counted from the most significant one of the first byte; 0 past the end.
+fn bit_at(s: &[u8], i: usize) -> u8
+    ensures { λ r. ⌜ r ≡ bitAt (now (s .entry)) i ⌝ }
+{
+    let byte = i / 8;
+    if byte < s.len() {
+        (s[byte] >> (7 - i % 8)) & 1
+    } else {
+        0
+    }
+}
+
+// The number that so many bits from a place on make.
+pub(crate) fn cut_bits(s: &[u8], at: usize, width: u8) -> u32
+    requires { ⌜ (at < 1000) × (width ≤ 32) ⌝ }
+    ensures { λ r. ⌜ r ≡ cut (now (s .entry)) at width ⌝ }
+{
+    let mut raw: u32 = 0;
+    for w in 0..width {
+        raw = raw * 2 + bit_at(s, at + w as usize) as u32;
+    }
+    raw
+}
