@@ -1,6 +1,6 @@
 -- Laws of an item's line and of the place behind it.
 use mathlib.Core.Path.{_≡_, refl, sym, ap, _∙_, subst}
-use mathlib.Core.Bool.{Bool, true, false, cond}
+use mathlib.Core.Bool.{Bool, true, false, cond, not}
 use mathlib.Core.List.{List, [], _∷_, _++_}
 use mathlib.Core.Option.{Option, none, some}
 use Prim.Native.Nat.{ℕ, zero, suc, _+_, _*_, _/_, _%_, _^_, _≤_, _<_}
@@ -8,12 +8,13 @@ use native.Mathlib.Omega.{arith}
 use borrow.Author.Tests.{le-leb, lt-leb, lt-ltb, le-ltb, ltb-false, eq-eqb, ne-eqb}
 use lib.Dec.{ltb, leb, eqb}
 use native.Mathlib.Numerals.{add-one}
-use lib.ListN.{length, take, getD, set, length-set}
+use lib.ListN.{length, take, drop, getD, set, length-set}
 use lib.Seq.{take-suc}
 use Rattle.frame.proofs.Bytes.{cases}
 use Rattle.sae.specs.declared.sae.PrnRow.{PrnRow}
 use Rattle.sae.specs.declared.sae.SlotRow.{SlotRow}
-use Rattle.catalogue.specs.Lookup.{Catalogue}
+use Rattle.catalogue.specs.declared.lookup.Layout.{Layout}
+use Rattle.catalogue.specs.Lookup.{Catalogue, layoutOf}
 use Rattle.report.specs.declared.items.Place.{Place}
 use Rattle.report.specs.declared.items.Place.the-variants.{Bit, Lost, Past}
 use Rattle.report.specs.declared.line.Held.{Held}
@@ -23,7 +24,7 @@ use Rattle.report.specs.Scaling.{formLine, numberLine, withinLimits, dig
 use Rattle.sae.specs.Rows.{SNM, SED, BMP, ASC}
 use Rattle.report.proofs.ScalingLaws.{number-not-nan}
 use Rattle.report.specs.Items.{overruns, slotLine, rowLine, rowNext, itemLine, next, itemLines, placeAfter, Inside}
-use Rattle.report.specs.Report.{Message, layoutSought, remainderAt}
+use Rattle.report.specs.Report.{Message, layoutSought, remainderAt, responseLine, groupOf, groupLines, reportOf, linesOf}
 use Rattle.report.specs.Rows.{holdsNumber, allHold, firstLines}
 
 pub form-high : (form width : ℕ) (slot : SlotRow) (raw : ℕ) → 7 ≤ form → formLine form width slot raw ≡ Unknown 4
@@ -158,3 +159,37 @@ form-holds form width slot raw h l =
     cases (eqb (width % 4) 0)
     (λ w. cases (digitsPass decimal 4 (width / 4) raw) (λ t. rw (f1, f2, f3, f4, f5, f6, w, t) tt) (λ t. rw (f1, f2, f3, f4, f5, f6, w, t) tt))
     (λ w. rw (f1, f2, f3, f4, f5, f6, w) tt)))))))
+
+pub after-inside : (c : Catalogue) (items : List ℕ) (p : Place) (prns : List ℕ) → Inside items p → Inside items (placeAfter c items p prns)
+unfolding placeAfter
+after-inside c items p [] h = h
+after-inside c items p (prn ∷ prns) h = after-inside c items (next c items p prn) prns (next-inside c items p prn h)
+
+turned : (b t : Bool) → not b ≡ t → b ≡ not t
+turned true t e = ap not e
+turned false t e = ap not e
+
+-- The lines of a group, with a layout and without.
+module _ (c : Catalogue) (items : List ℕ) (l : Layout) where
+  pub group-none : not (l .found) ≡ true → Unknown 8 ∷ [] ≡ groupLines (groupOf c items (layoutOf l) ∷ [])
+  unfolding groupOf groupLines
+  group-none f = rw (turned (l .found) true f) refl
+
+  pub group-some :
+      not (l .found) ≡ false
+      → (lines : List Line) (r : Line)
+      → lines ≡ itemLines c items (Bit 0) (take (l .count) (l .prns))
+      → r ≡ remainderAt items (placeAfter c items (Bit 0) (take (l .count) (l .prns)))
+      → (lines ++ r ∷ []) ≡ groupLines (groupOf c items (layoutOf l) ∷ [])
+  unfolding groupOf groupLines
+  group-some f lines r p q = rw (turned (l .found) false f) (λ i. p i ++ q i ∷ [])
+
+-- The lines of a report, from those of its group and its response.
+pub report-lines :
+    (c : Catalogue) (m : Message) (o : Option (List ℕ)) (group : List Line) (r : Line)
+    → o ≡ layoutSought c (record { first = m .first; target = m .target; body = m .body; kind = 0 })
+    → group ≡ groupLines (groupOf c (drop 1 (m .body)) o ∷ [])
+    → r ≡ responseLine (m .kind)
+    → (group ++ r ∷ []) ≡ linesOf (reportOf c m)
+unfolding layoutSought reportOf linesOf
+report-lines c m o group r p q e = λ i. (q ∙ ap (λ (x : Option (List ℕ)). groupLines (groupOf c (drop 1 (m .body)) x ∷ [])) p) i ++ e i ∷ []

@@ -13,7 +13,7 @@ ghost use lib.ListN.{length, drop};
 ghost use Rattle.catalogue.specs.Supplement.{Accepted};
 ghost use Rattle.catalogue.specs.Lookup.{catalogue, layoutOf};
 ghost use Rattle.report.specs.Items.{Inside};
-ghost use Rattle.report.specs.Report.{remainderAt, responseLine, layoutSought, reportOf, linesOf, verdict};
+ghost use Rattle.report.specs.Report.{remainderAt, responseLine, layoutSought, groupOf, groupLines, reportOf, linesOf, verdictOf};
 ghost use Rattle.report.specs.Rows.{holdsNumber, allHold, firstLines};
 ghost use Rattle.report.specs.Answer.{shownLines};
 
@@ -67,5 +67,59 @@ fn response_line(kind: u8) -> Line
         Line::Unknown(7)
     } else {
         Line::Answered(kind)
+    }
+}
+
+// Up to sixteen item lines, their count and their remainder.
+struct Group {
+    lines: [Held; 16],
+    count: usize,
+    remainder: Line,
+}
+
+// The lines of a layout; without one none, and the remainder says so.
+fn group_of(s: &[u8], items: &[u8], layout: Layout) -> Group
+    requires { ⌜ Accepted (now s) × (length (now items) ≤ 12) × (layout .count ≤ 16) × (length (layout .prns) ≡ 16) ⌝ }
+    ensures shows { λ r. ⌜ (firstLines (r .count) (r .lines) ++ r .remainder ∷ []) ≡ groupLines (groupOf (catalogue (now (s .entry))) (now (items .entry)) (layoutOf layout) ∷ []) ⌝ }
+    ensures sized { λ r. ⌜ (r .count ≤ 16) × (length (r .lines) ≡ 16) ⌝ }
+    ensures number { λ r. ⌜ allHold (firstLines (r .count) (r .lines)) × holdsNumber (r .remainder) ⌝ }
+{
+    if !layout.found {
+        return Group {
+            lines: [Held { line: Line::Short }; 16],
+            count: 0,
+            remainder: Line::Unknown(8),
+        };
+    }
+    let shown = item_lines(s, items, layout);
+    let lines = shown.lines;
+    let place = shown.place;
+    Group {
+        lines,
+        count: layout.count,
+        remainder: remainder_line(items, place),
+    }
+}
+
+// The report of a message under a supplement.
+pub(crate) fn message_report(s: &[u8], first: u8, target: u8, body: &[u8], kind: u8) -> Report
+    requires { ⌜ Accepted (now s) × (length (now body) ≤ 12) ⌝ }
+    ensures shows { λ r. ⌜ shownLines r ≡ linesOf (reportOf (catalogue (now (s .entry))) (record { first = first; target = target; body = now (body .entry); kind = kind })) ⌝ }
+    ensures judged { λ r. ⌜ r .verdict ≡ verdictOf (shownLines r) ⌝ }
+    ensures sized { λ r. ⌜ (r .count ≤ 16) × (length (r .lines) ≡ 16) ⌝ }
+    ensures number { λ r. ⌜ allHold (shownLines r) ⌝ }
+{
+    let layout = sought(s, first, target, body);
+    let group = group_of(s, items_of(body), layout);
+    let lines = group.lines;
+    let count = group.count;
+    let remainder = group.remainder;
+    let response = response_line(kind);
+    Report {
+        lines,
+        count,
+        remainder,
+        response,
+        verdict: verdict_of(lines, count, remainder, response),
     }
 }

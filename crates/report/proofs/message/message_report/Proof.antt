@@ -1,0 +1,62 @@
+-- The group's lines and the response's are the report's.
+use mathlib.Core.Path.{_≡_, sym, ap, _∙_}
+use mathlib.Core.List.{List, [], _∷_, _++_}
+use Prim.Native.Nat.{ℕ, _≤_}
+use native.Mathlib.Omega.{arith}
+use lib.ListN.{length, drop, length-drop}
+use borrow.Author.Needs.{needs}
+use Rattle.catalogue.specs.Lookup.{catalogue, layoutOf}
+use Rattle.report.specs.Report.{groupOf, groupLines}
+use Rattle.report.specs.Rows.{firstLines}
+use Rattle.report.proofs.ItemLaws.{numbers-snoc, report-lines}
+use Rattle.report.proofs.message.message_report.Statement.{statement}
+use Rattle.report.proofs.message.message_report.Tie as tie
+
+sought-requires : tie.Need-sought-requires
+sought-requires c κs = search needs
+
+items-of-requires : tie.Need-items-of-requires
+items-of-requires c κs = search needs
+
+group-of-requires : tie.Need-group-of-requires
+group-of-requires c κs =
+    let pre = c .before .before .before .before .pre in
+    let body = c .before .before .before .before .args .body .now in
+    (pre .0, omega (arith, pre .1, ap length (c .items-of .ensures) ∙ length-drop 1 body), c .before .sought .ensures .1 .0, c .before .sought .ensures .1 .1)
+
+response-line-requires : tie.Need-response-line-requires
+response-line-requires c κs = search needs
+
+verdict-of-requires : tie.Need-verdict-of-requires
+verdict-of-requires c κs = search needs
+
+returns : tie.Need-returns
+returns c =
+    let args = c .before .before .before .before .before .before .before .before .args in
+    let group = c .before .before .before .group-of in
+    let response = c .before .response-line in
+    let items = firstLines (group .result .count) (group .result .lines) in
+    let layout = c .before .before .before .before .before .sought in (
+      report-lines (catalogue (args .s .now)) (record { first = args .first; target = args .target; body = args .body .now; kind = args .kind })
+          (layoutOf (layout .result)) (items ++ group .result .remainder ∷ []) (response .result) (layout .ensures .0)
+          (group .ensures .0 ∙ ap (λ (bs : List ℕ). groupLines (groupOf (catalogue (args .s .now)) bs (layoutOf (layout .result)) ∷ [])) (c .before .before .before .before .items-of .ensures))
+          (response .ensures .0),
+      (
+        c .verdict-of .ensures,
+        (
+          group .ensures .1 .0,
+          numbers-snoc (items ++ group .result .remainder ∷ []) (response .result) (numbers-snoc items (group .result .remainder) (group .ensures .1 .1 .0) (group .ensures .1 .1 .1)) (response .ensures .1),
+        ),
+      ),
+    )
+
+pub message-report-spec : {M : Type 1} → statement M
+message-report-spec =
+    tie.close
+    (tie.spec
+    sought-requires
+    items-of-requires
+    group-of-requires
+    response-line-requires
+    verdict-of-requires
+    returns)
