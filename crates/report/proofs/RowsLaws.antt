@@ -5,7 +5,7 @@ use Prim.Native.Nat.{ℕ, zero, suc, _+_, _-_, _*_, _/_, _%_, _^_, _≤_, _<_}
 use native.Mathlib.Omega.{arith}
 use native.Mathlib.Nat.{pow-suc, div-one, div-div-eq-div-mul}
 use native.Mathlib.Numerals.{add-one}
-use lib.ListN.{length, take, drop, getD, set, length-append, length-map, List·getD-map}
+use lib.ListN.{length, take, drop, getD, set, length-append, length-take, length-map, List·getD-map}
 use lib.Seq.{set-split, take-append-le, take-take, drop-at, length-take-le, take-suc, take-add, getD-take, paste-zero}
 use lib.Ieee.{binary64, nan, toBits}
 use Rattle.frame.specs.Frame.{placed}
@@ -233,3 +233,29 @@ module _ (lines : List Held) (count at : ℕ) (out₀ : List ℕ) (within : coun
   all-laid out end i h k =
       let all : i ≡ count = omega (arith, k .bounded) in
       (k .bytes ∙ ap (λ (n : ℕ). placed out₀ at (rowsOf (firstLines n lines))) all, k .behind ∙ ap (λ (n : ℕ). at + length (rowsOf (firstLines n lines))) all)
+
+pub first-length : (n : ℕ) (lines : List Held) → length (firstLines n lines) ≤ n
+first-length n lines = omega (arith, length-take n (map (λ (h : Held). h .line) lines))
+
+-- The rows of the item lines and the two lines behind them.
+pub rows-ends : (ls : List Line) (l m : Line) → rowsOf ((ls ++ l ∷ []) ++ m ∷ []) ≡ (rowsOf ls ++ row l) ++ row m
+unfolding rowsOf
+rows-ends ls l m =
+    rows-append (ls ++ l ∷ []) (m ∷ [])
+    ∙ (λ i. (rows-append ls (l ∷ []) ∙ ap (λ (u : List ℕ). rowsOf ls ++ u) (append-nil (row l))) i ++ append-nil (row m) i)
+
+pub ends-length : (ls : List Line) (l m : Line) → length (rowsOf ((ls ++ l ∷ []) ++ m ∷ [])) ≡ length (rowsOf ls) + length (row l) + length (row m)
+ends-length ls l m =
+    omega (arith, ap length (rows-ends ls l m), length-append (rowsOf ls ++ row l) (row m), length-append (rowsOf ls) (row l))
+
+pub holds-append : (a b : List Line) → allHold (a ++ b) → allHold a × allHold b
+unfolding allHold
+holds-append [] b h = (tt, h)
+holds-append (l ∷ a) b h = let rest = holds-append a b (h .1) in ((h .0, rest .0), rest .1)
+
+pub holds-ends : (ls : List Line) (l m : Line) → allHold ((ls ++ l ∷ []) ++ m ∷ []) → allHold ls × holdsNumber l × holdsNumber m
+unfolding allHold
+holds-ends ls l m h =
+    let last = holds-append (ls ++ l ∷ []) (m ∷ []) h in
+    let front = holds-append ls (l ∷ []) (last .0) in
+    (front .0, front .1 .0, last .1 .0)

@@ -1,14 +1,16 @@
 // Rows as bytes in lent memory.
 use crate::line::Held;
 use crate::line::Line;
+use crate::message::Report;
 ghost use mathlib.Core.Path.{_≡_};
 ghost use mathlib.Core.Bool.{false};
-ghost use mathlib.Core.List.{[], _∷_};
+ghost use mathlib.Core.List.{[], _∷_, _++_};
 ghost use Prim.Native.Nat.{_+_, _≤_};
 ghost use lib.ListN.{length};
 ghost use lib.Ieee.{binary64, isNan, toBits};
 ghost use Rattle.frame.specs.Frame.{placed};
 ghost use Rattle.report.specs.Rows.{bigEndian, row, rowsOf, holdsNumber, allHold, firstLines};
+ghost use Rattle.report.specs.Answer.{shownLines};
 
 // A row is a byte for its kind and a body: a double, a code, a byte, or nothing.
 const DOUBLE_BYTES: usize = 8;
@@ -133,4 +135,45 @@ pub(crate) fn put_lines(lines: [Held; 16], count: usize, out: &mut [u8], at: usi
         i += 1;
     }
     end
+}
+
+// How long the rows of the first lines of an array are.
+fn lines_size(lines: [Held; 16], count: usize) -> usize
+    requires { ⌜ (count ≤ 16) × (length lines ≡ 16) ⌝ }
+    ensures { λ r. ⌜ r ≡ length (rowsOf (firstLines count lines)) ⌝ }
+{
+    let mut size: usize = 0;
+    let mut i: usize = 0;
+    while i < count {
+        let h = lines[i];
+        let line = h.line;
+        size += row_size(line);
+        i += 1;
+    }
+    size
+}
+
+// How long the rows of a report are, the verdict's with them.
+pub(crate) fn report_size(report: Report) -> usize
+    requires { ⌜ (report .count ≤ 16) × (length (report .lines) ≡ 16) ⌝ }
+    ensures { λ r. ⌜ r ≡ length (rowsOf (shownLines report)) + 2 ⌝ }
+{
+    let lines = report.lines;
+    let remainder = report.remainder;
+    let response = report.response;
+    lines_size(lines, report.count) + row_size(remainder) + row_size(response) + BYTE_ROW
+}
+
+// The rows of a report at the start of lent memory.
+pub(crate) fn put_report(report: Report, out: &mut [u8])
+    requires { ⌜ (report .count ≤ 16) × allHold (shownLines report) × (length (rowsOf (shownLines report)) + 2 ≤ length (now out)) ⌝ }
+    ensures { λ r. ⌜ now (out .exit) ≡ placed (now (out .entry)) 0 (rowsOf (shownLines report) ++ 11 ∷ report .verdict ∷ []) ⌝ }
+{
+    let lines = report.lines;
+    let remainder = report.remainder;
+    let response = report.response;
+    let after_lines = put_lines(lines, report.count, out, 0);
+    let after_remainder = put_row(remainder, out, after_lines);
+    let after_response = put_row(response, out, after_remainder);
+    put_byte(11, report.verdict, out, after_response);
 }
