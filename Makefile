@@ -52,6 +52,7 @@ peer-tests:
 
 # The vector files that are committed are those that the second program writes.
 vectors: peer
+	rm -rf build/vectors
 	$(PEER)/vectors frame build/vectors/frame_vectors
 	$(PEER)/vectors supplement build/vectors/supplement_vectors
 	$(PEER)/vectors tables build/vectors/sae_rows
