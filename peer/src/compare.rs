@@ -4,6 +4,10 @@ pub mod frame;
 mod frame_random;
 mod lent;
 mod long_runs;
+pub mod promise;
+mod promise_random;
+pub mod report;
+mod report_random;
 pub mod supplement;
 mod supplement_random;
 

@@ -7,6 +7,8 @@ pub mod item;
 pub mod line;
 #[cfg(test)]
 pub mod mutants;
+pub mod neighbours;
+pub mod promise;
 pub mod rows;
 pub mod scene;
 pub mod scene_random;

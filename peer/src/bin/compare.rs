@@ -1,10 +1,14 @@
-//! `compare frame COUNT SEED` compares the archive with the rules, and so does
-//! `compare supplement COUNT SEED`, if built for an archive with that call.
+//! `compare LAYER COUNT SEED` compares the archive with the rules: the frame
+//! layer, and the supplement or the report, if built for an archive with those
+//! calls. `compare promise COUNT SEED` tries what reports keep when records are
+//! added to a supplement or taken away.
 
 use peer::compare::frame::{self, FrameCalls};
 #[cfg(feature = "supplement")]
 use peer::compare::supplement;
 use peer::compare::Outcome;
+#[cfg(feature = "report")]
+use peer::compare::{promise, report};
 use std::env;
 use std::process::ExitCode;
 
@@ -27,12 +31,25 @@ extern "C" {
     ) -> u64;
     #[cfg(feature = "supplement")]
     fn rakhubole_supplement_check(supplement: *const u8, len: usize) -> u64;
+    #[cfg(feature = "report")]
+    fn rakhubole_j1850_report(
+        supplement: *const u8,
+        supplement_len: usize,
+        first: *const u8,
+        first_len: usize,
+        response: *const u8,
+        response_len: usize,
+        out: *mut u8,
+        out_len: usize,
+    ) -> u64;
 }
 
-#[cfg(feature = "supplement")]
-const USAGE: &str = "usage: compare frame|supplement COUNT SEED";
+#[cfg(feature = "report")]
+const USAGE: &str = "usage: compare frame|supplement|report|promise COUNT SEED";
+#[cfg(all(feature = "supplement", not(feature = "report")))]
+const USAGE: &str = "usage: compare frame|supplement COUNT SEED (built without: report)";
 #[cfg(not(feature = "supplement"))]
-const USAGE: &str = "usage: compare frame COUNT SEED (built without: supplement)";
+const USAGE: &str = "usage: compare frame COUNT SEED (built without: supplement, report)";
 
 fn main() -> ExitCode {
     let arguments: Vec<String> = env::args().skip(1).collect();
@@ -46,6 +63,10 @@ fn main() -> ExitCode {
         (Some("frame"), [count, seed], 3) => compare_frames(*count, *seed),
         #[cfg(feature = "supplement")]
         (Some("supplement"), [count, seed], 3) => compare_supplements(*count, *seed),
+        #[cfg(feature = "report")]
+        (Some("report"), [count, seed], 3) => compare_reports(*count, *seed),
+        #[cfg(feature = "report")]
+        (Some("promise"), [count, seed], 3) => try_promise(*count, *seed),
         _ => {
             eprintln!("{USAGE}");
             ExitCode::from(2)
@@ -60,7 +81,7 @@ fn compare_frames(count: u64, seed: u64) -> ExitCode {
     };
     let outcome = frame::run(&calls, count, seed);
     let summary = outcome.summary("frame", &frame::shown_classes());
-    report(&outcome, &frame::classes(), &summary)
+    show(&outcome, &frame::classes(), &summary)
 }
 
 #[cfg(feature = "supplement")]
@@ -68,10 +89,30 @@ fn compare_supplements(count: u64, seed: u64) -> ExitCode {
     let check = |pointer, length| unsafe { rakhubole_supplement_check(pointer, length) };
     let outcome = supplement::run(&check, count, seed);
     let summary = outcome.summary("supplement", &supplement::shown_classes());
-    report(&outcome, &supplement::classes(), &summary)
+    show(&outcome, &supplement::classes(), &summary)
 }
 
-fn report(outcome: &Outcome, classes: &[String], summary: &str) -> ExitCode {
+#[cfg(feature = "report")]
+fn call_report(runs: [report::Run; 3], out: (*mut u8, usize)) -> u64 {
+    let [(a, a_len), (b, b_len), (c, c_len)] = runs;
+    unsafe { rakhubole_j1850_report(a, a_len, b, b_len, c, c_len, out.0, out.1) }
+}
+
+#[cfg(feature = "report")]
+fn compare_reports(count: u64, seed: u64) -> ExitCode {
+    let outcome = report::run(&call_report, count, seed);
+    let summary = outcome.summary("report", &report::shown_classes());
+    show(&outcome, &report::classes(), &summary)
+}
+
+#[cfg(feature = "report")]
+fn try_promise(count: u64, seed: u64) -> ExitCode {
+    let outcome = promise::run(&call_report, count, seed);
+    let summary = outcome.summary("promise", &promise::classes());
+    show(&outcome, &promise::classes(), &summary)
+}
+
+fn show(outcome: &Outcome, classes: &[String], summary: &str) -> ExitCode {
     for difference in &outcome.differences {
         println!("{difference}");
     }

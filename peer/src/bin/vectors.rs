@@ -1,6 +1,6 @@
-//! `vectors frame DIR` and `vectors supplement DIR` write the cases to DIR/stdin
-//! and the expected output to DIR/stdout; `vectors tables DIR` writes the SAE
-//! tables to DIR/stdout.
+//! `vectors LAYER DIR` writes the cases of the frame, supplement or report layer
+//! to DIR/stdin and the expected output to DIR/stdout; `vectors tables DIR`
+//! writes the SAE tables to DIR/stdout.
 
 use peer::vectors;
 use std::env;
@@ -13,8 +13,9 @@ fn main() -> ExitCode {
         ["frame", _] => vectors::frame::make(),
         ["tables", _] => vectors::tables::make(),
         ["supplement", _] => vectors::supplement::make(),
+        ["report", _] => vectors::report::make(),
         _ => {
-            eprintln!("usage: vectors frame|tables|supplement DIR");
+            eprintln!("usage: vectors frame|tables|supplement|report DIR");
             return ExitCode::from(2);
         }
     };

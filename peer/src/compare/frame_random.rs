@@ -22,6 +22,11 @@ pub fn case(random: &mut Random) -> FrameCase {
 }
 
 fn read_case(random: &mut Random) -> FrameCase {
+    FrameCase::read(runs(random))
+}
+
+/// Two runs, mostly a frame.
+pub fn runs(random: &mut Random) -> (Vec<u8>, Vec<u8>) {
     let mut draft = Draft::random(random);
     if random.once_in(4) {
         spoil_parts(&mut draft, random);
@@ -36,7 +41,7 @@ fn read_case(random: &mut Random) -> FrameCase {
         7 => runs = (random_run(random), random_run(random)),
         _ => {}
     }
-    FrameCase::read(runs)
+    runs
 }
 
 fn write_case(random: &mut Random) -> FrameCase {
@@ -124,7 +129,7 @@ fn lengthen(run: &mut Vec<u8>, others: usize, random: &mut Random) {
 
 /// One fault in the runs: a bit, a byte, the place of EOD, the end of a run,
 /// or the response's check byte.
-fn spoil_runs(runs: &mut (Vec<u8>, Vec<u8>), random: &mut Random) {
+pub fn spoil_runs(runs: &mut (Vec<u8>, Vec<u8>), random: &mut Random) {
     match random.below(8) {
         0 => flip_bit(&mut runs.0, random),
         1 => flip_bit(&mut runs.1, random),

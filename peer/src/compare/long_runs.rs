@@ -1,11 +1,13 @@
 //! Runs whose lengths do not fit 32 bits, lent once in each place.
 
 use super::frame::FrameCalls;
+use super::report::Call;
 use super::supplement::Check;
 use crate::frame::check_byte::checked;
 use crate::frame::draft::Draft;
 use crate::frame::reader;
-use crate::frame::writer::{self, Request};
+use crate::frame::writer;
+use crate::report::{self, Request};
 use crate::supplement;
 use std::alloc::{alloc_zeroed, Layout};
 
@@ -50,6 +52,42 @@ pub fn compare_supplements(check: Check) -> (u64, Vec<String>) {
     (2, differences)
 }
 
+/// The same for reports: each run in its turn, then the output.
+pub fn compare_reports(call: Call) -> (u64, Vec<String>) {
+    let Some(mut block) = zeroed(EXCESS + 16) else {
+        return (0, Vec::new());
+    };
+    let sound = checked(&[0x12]);
+    block[..2].copy_from_slice(&sound);
+    let (one, two) = (&block[..EXCESS + 1], &block[..EXCESS + 2]);
+    let (nothing, response) = (&block[..EXCESS], vec![9]);
+    let mut found = vec![
+        report(call, [nothing, &sound, &response], &mut [0; 32]),
+        report(call, [&[], two, &response], &mut [0; 32]),
+        report(call, [&[], &sound, one], &mut [0; 32]),
+    ];
+    let out = &mut block[..EXCESS + 1];
+    found.push(report(call, [&[], &sound, &response], out));
+    (found.len() as u64, found.into_iter().flatten().collect())
+}
+
+fn report(call: Call, runs: [&[u8]; 3], out: &mut [u8]) -> Option<String> {
+    let [supplement, first, response] = runs;
+    let (expected, rows) = report::answer(&Request {
+        supplement,
+        first,
+        response,
+        out_length: out.len(),
+    });
+    let lengths = format!("{:?} and {}", runs.map(<[u8]>::len), out.len());
+    let pointers = runs.map(|run| (run.as_ptr(), run.len()));
+    let given = call(pointers, (out.as_mut_ptr(), out.len()));
+    if expected == given && out[..rows.len()] != rows {
+        return Some(format!("report of lengths {lengths}: other bytes"));
+    }
+    difference(format!("report of lengths {lengths}"), expected, given)
+}
+
 /// Zeroed memory, of which only what is touched is used.
 fn zeroed(length: usize) -> Option<Vec<u8>> {
     let layout = Layout::array::<u8>(length).ok()?;
@@ -70,7 +108,7 @@ fn read(calls: &FrameCalls, first: &[u8], response: &[u8]) -> Option<String> {
 
 fn write(calls: &FrameCalls, header: &[u8], data: &[u8], response: &[u8]) -> Option<String> {
     let mut out = [0; 32];
-    let expected = writer::answer(&Request {
+    let expected = writer::answer(&writer::Request {
         header,
         data,
         response,

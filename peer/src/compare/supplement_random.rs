@@ -27,7 +27,7 @@ pub fn supplement(random: &mut Random) -> Vec<u8> {
 }
 
 /// Mostly a few records, sometimes hundreds, seldom as many as fit or more.
-fn kinds(random: &mut Random) -> Vec<u8> {
+pub fn kinds(random: &mut Random) -> Vec<u8> {
     let count = match random.below(3000) {
         0 => {
             let layouts = random.pick(&[Layouts::Few, Layouts::Many]);
@@ -40,7 +40,8 @@ fn kinds(random: &mut Random) -> Vec<u8> {
     (0..count).map(|_| random_kind(random)).collect()
 }
 
-fn large(random: &mut Random) -> usize {
+/// A length about the most, or far from it.
+pub fn large(random: &mut Random) -> usize {
     match random.below(4) {
         0 => MOST_BYTES,
         1 => MOST_BYTES + 1,
@@ -50,7 +51,7 @@ fn large(random: &mut Random) -> usize {
 }
 
 /// One fault, or what is nearly one, in one record.
-fn spoil(records: &mut Vec<Bytes>, random: &mut Random) {
+pub fn spoil(records: &mut Vec<Bytes>, random: &mut Random) {
     if records.is_empty() {
         return records.push(spoiled_field(random));
     }

@@ -3,7 +3,10 @@
 
 mod answers;
 mod items;
-mod parts;
+mod layouts;
+mod lines;
+mod numbers;
+mod places;
 
 use super::item::{applying, BEHIND, RULES as ITEM_RULES};
 use super::line::Line;
@@ -16,12 +19,10 @@ pub type Answer = Box<dyn Fn(&Request) -> (u64, Vec<u8>)>;
 
 pub fn mutants() -> Vec<(String, Answer)> {
     let mut list: Vec<(String, Answer)> = Vec::new();
-    let mut changed = parts::changed_rules();
-    changed.extend(items::changed_rules());
-    for (name, rules) in changed {
+    for (name, rules) in changed_rules() {
         list.push((name, Box::new(move |request| rules.answer(request))));
     }
-    for (name, change) in parts::CHANGED_REPORTS {
+    for (name, change) in lines::CHANGED_REPORTS {
         let answer: Answer = Box::new(move |request| with_change(request, change));
         list.push((name.to_string(), answer));
     }
@@ -34,6 +35,29 @@ pub fn mutants() -> Vec<(String, Answer)> {
     }
     for (name, answer) in answers::OTHERS {
         list.push((name.to_string(), Box::new(answer)));
+    }
+    list
+}
+
+/// What is wrong, and the change of the rules that makes it so.
+type Changed = (&'static str, fn(&mut Rules));
+
+fn changed_rules() -> Vec<(String, Rules)> {
+    let mut list = items::changed_rules();
+    for changes in [
+        layouts::KEYS,
+        layouts::LAYOUTS,
+        layouts::TABLES,
+        places::PLACES,
+        lines::OTHER_LINES,
+        lines::VERDICTS,
+        lines::ROWS,
+    ] {
+        for (name, change) in changes {
+            let mut rules = RULES;
+            change(&mut rules);
+            list.push((name.to_string(), rules));
+        }
     }
     list
 }

@@ -7,7 +7,7 @@ use crate::frame::draft::Draft;
 use crate::frame::header::{kind_of_run, response_kind};
 use crate::frame::reader::Parts;
 use crate::random::Random;
-use crate::sae::form::UNM;
+use crate::sae::form::SNM;
 use crate::sae::{all_ones, has_prn, has_slot, prn_row, Prn, Slot};
 use crate::supplement::draft::{layout_record, prn_record, slot_record, Bytes};
 use crate::supplement::kind::PLACES;
@@ -83,7 +83,7 @@ pub fn own_rows(place: u16, form: u8, width: u8) -> (Prn, Slot) {
 /// Unscaled, with every raw number of the width inside its limits.
 pub fn whole_slot(form: u8, width: u8, number: u16) -> Slot {
     let (mut lowest, mut highest) = (0, all_ones(width));
-    if form == crate::sae::form::SNM {
+    if form == SNM {
         highest >>= 1;
         lowest = !highest;
     }
@@ -130,7 +130,7 @@ impl Scene {
         for sample in samples {
             scene.add(sample);
         }
-        if bits % 8 != 0 && samples.len() < PLACES {
+        if !bits.is_multiple_of(8) && samples.len() < PLACES {
             scene.add(&Sample::pad(8 - bits % 8));
         }
         scene
@@ -192,8 +192,9 @@ pub fn frame(first_byte: u8, data: usize, random: &mut Random) -> Draft {
 }
 
 /// An unsigned number of this width that takes every raw number.
+#[cfg(test)]
 pub fn plain(place: u16, width: u8, raw: u64) -> Sample {
-    let (prn, slot) = own_rows(place, UNM, width);
+    let (prn, slot) = own_rows(place, crate::sae::form::UNM, width);
     Sample::own(prn, Some(slot), raw)
 }
 

@@ -1,7 +1,7 @@
 //! Random scenes: most have a layout for their frame, items of every form and
 //! width from both tables, and bits that mean something.
 
-use super::item::limits;
+use super::item::{limits, raw_number};
 use super::scene::{Sample, Scene};
 use crate::frame::draft::{room, Draft, FIRST_BYTES};
 use crate::frame::header::response_kind;
@@ -19,8 +19,15 @@ pub fn scene(random: &mut Random) -> Scene {
         _ => scene.bits(),
     };
     let places = random.pick(&[PLACES, PLACES, PLACES, 1, 2, 4]);
+    let is_narrow = random.once_in(8);
+    let is_again = random.once_in(24);
     while scene.end < aim && usize::from(scene.layout.count) < places {
-        let sample = sample(aim - scene.end, &scene, random);
+        let mut room = aim - scene.end;
+        if is_narrow || is_again {
+            room = room.div_ceil(PLACES - usize::from(scene.layout.count));
+        }
+        let same = again(&scene, random).filter(|_| is_again);
+        let sample = same.unwrap_or_else(|| sample(room, &scene, random));
         scene.add(&sample);
         if sample.row.is_none() && random.once_in(2) {
             break;
@@ -50,7 +57,7 @@ fn frame(random: &mut Random) -> Draft {
     Draft::of_lengths(first_byte, data, response, random)
 }
 
-/// Function or broadcast, query, and so on: types of the same kind.
+/// Now and then another type of the same kind.
 fn with_other_type(first_byte: u8, random: &mut Random) -> u8 {
     let other = first_byte ^ random.pick(&[0, 1, 2, 3, 4, 5, 6, 7]);
     if response_kind(other) == response_kind(first_byte) {
@@ -72,9 +79,20 @@ fn sample(room: usize, scene: &Scene, random: &mut Random) -> Sample {
             let prn = own_prn(room, scene, random);
             let known = scene.slots.iter().find(|slot| slot.key() == prn.slot_key());
             let slot = known.copied().unwrap_or_else(|| own_slot(&prn, random));
-            Sample::own(prn, Some(slot), raw(&slot, random))
+            scaled(prn, slot, random)
         }
     }
+}
+
+/// Bits for an item; now and then the offset makes their value zero.
+fn scaled(prn: Prn, mut slot: Slot, random: &mut Random) -> Sample {
+    let raw = raw(&slot, random);
+    if random.once_in(16) && slot.width <= 32 {
+        let number = raw_number(&slot, raw as u32 & all_ones(slot.width));
+        let product = number * i64::from(slot.multiplier);
+        slot.offset = i32::try_from(-product).unwrap_or(slot.offset);
+    }
+    Sample::own(prn, Some(slot), raw)
 }
 
 /// A number that is a PRN in no table and not yet in the scene.
@@ -146,7 +164,7 @@ fn own_prn(room: usize, scene: &Scene, random: &mut Random) -> Prn {
     let form = random.pick(&[UNM, UNM, SNM, SNM, SED, BMP, ASC, BCD, UNM, BMM, SFP, PKT]);
     let mut width = random.between(1, most) as u8;
     let unit = [(ASC, 8), (BCD, 4)].iter().find(|unit| unit.0 == form);
-    if let (Some((_, unit)), false) = (unit, random.once_in(8)) {
+    if let (Some((_, unit)), false) = (unit, random.once_in(4)) {
         width = (width / unit * unit).max(*unit);
     }
     let number = random_slot(random).number;
@@ -191,14 +209,15 @@ pub fn own_slot(prn: &Prn, random: &mut Random) -> Slot {
 /// limit.
 pub fn raw(slot: &Slot, random: &mut Random) -> u64 {
     let (lowest, highest) = limits(slot);
-    match random.below(10) {
-        0 => random.number(),
-        1 => random.pick(&[lowest - 1, lowest, highest, highest + 1]) as u64,
-        _ => match slot.form {
-            ASC => spell(8, || random.between(0x20, 0x7E)),
-            BCD => spell(4, || random.below(10)),
-            _ => inside(slot, random),
-        },
+    let near = [lowest - 1, lowest, highest, highest + 1];
+    match (random.below(10), slot.form) {
+        (0, _) => random.number(),
+        (1, ASC) => spell(8, || random.pick(&[0x1F, 0x20, 0x41, 0x7E, 0x7E, 0x7F])),
+        (1, BCD) => spell(4, || random.pick(&[0, 7, 8, 9, 9, 9, 10])),
+        (1, _) => random.pick(&near) as u64,
+        (_, ASC) => spell(8, || random.between(0x20, 0x7E)),
+        (_, BCD) => spell(4, || random.below(10)),
+        _ => inside(slot, random),
     }
 }
 
@@ -230,7 +249,7 @@ mod tests {
     use crate::report::scene::parts_of;
     use crate::report::RULES;
     use crate::supplement::records::Records;
-    use std::collections::BTreeMap;
+    use std::collections::{BTreeMap, BTreeSet};
 
     #[test]
     fn scenes_are_accepted_and_show_every_line_often() {
@@ -259,5 +278,17 @@ mod tests {
         }
         assert_eq!(counts.len(), 3 + 9 + 7, "{counts:?}");
         assert!(counts.values().all(|count| *count > 100), "{counts:?}");
+    }
+
+    #[test]
+    fn scenes_have_every_form_at_every_width() {
+        let mut random = Random::new(73);
+        let mut seen = BTreeSet::new();
+        for _ in 0..300_000 {
+            let scene = scene(&mut random);
+            seen.extend(scene.prns.iter().map(|prn| (prn.form, prn.width)));
+        }
+        let mut all = (UNM..=PKT).flat_map(|form| (1..=64).map(move |width| (form, width)));
+        assert_eq!(all.find(|pair| !seen.contains(pair)), None);
     }
 }

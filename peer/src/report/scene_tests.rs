@@ -1,6 +1,6 @@
 use super::*;
 use crate::report::bits::cut;
-use crate::sae::form::{BMP, SNM};
+use crate::sae::form::{BMP, SNM, UNM};
 
 #[test]
 fn a_scene_holds_its_samples() {
@@ -50,4 +50,12 @@ fn frames_without_data_seek_an_absent_selector() {
     assert_eq!(scene.layout.key(), [0xF2, 0, 0, 0]);
     assert_eq!(scene.bits(), 0);
     assert_eq!(scene.case().answer().1, [9, 0, 10, 2, 11, 1]);
+}
+
+#[test]
+fn own_rows_are_in_no_sae_table() {
+    for place in 0..20 {
+        let (prn, slot) = own_rows(place, UNM, 8);
+        assert!(!has_prn(prn.prn) && !has_slot(slot.key()));
+    }
 }

@@ -120,8 +120,15 @@ pub fn random_kind(random: &mut Random) -> u8 {
 
 /// Acceptable records of these kinds, no key twice.
 pub fn distinct(kinds: &[u8], random: &mut Random) -> Vec<Bytes> {
-    let mut keys = HashSet::new();
     let mut list = Vec::new();
+    add_distinct(&mut list, kinds, random);
+    list
+}
+
+/// More acceptable records of these kinds, none with a key that is there.
+pub fn add_distinct(list: &mut Vec<Bytes>, kinds: &[u8], random: &mut Random) {
+    let known = list.iter().map(|record| key_of(record).to_vec());
+    let mut keys: HashSet<Bytes> = known.collect();
     for kind in kinds {
         let mut record = random_record(*kind, random);
         while !keys.insert(key_of(&record).to_vec()) {
@@ -129,7 +136,6 @@ pub fn distinct(kinds: &[u8], random: &mut Random) -> Vec<Bytes> {
         }
         list.push(record);
     }
-    list
 }
 
 /// Kind byte and key of a whole record.

@@ -17,6 +17,13 @@ pub struct Bench {
     pub rows: Vec<u8>,
 }
 
+impl Bench {
+    /// It is this case, and the rules give what is printed.
+    pub fn is_given_by(&self, case: &ReportCase) -> bool {
+        self.case == *case && case.answer() == (self.number, self.rows.clone())
+    }
+}
+
 fn accepted(name: &'static str, case: ReportCase, rows: &[&[u8]]) -> Bench {
     let rows = rows.concat();
     Bench {
@@ -143,7 +150,11 @@ fn values() -> Vec<Bench> {
         clear("UNM-08-241 at 25", of_slot(8, 241, &[25]), 102400.0),
         clear("UNM-08-241 at 26", of_slot(8, 241, &[26]), 106496.0),
         clear("UNM-08-241 at 255", of_slot(8, 241, &[255]), 1044480.0),
-        clear("UNM-16-61 at 65535", of_slot(16, 61, &[255, 255]), 4194240.0),
+        clear(
+            "UNM-16-61 at 65535",
+            of_slot(16, 61, &[255, 255]),
+            4194240.0,
+        ),
         clear("UNM-08-73 at 0", of_slot(8, 73, &[0]), -40.0),
         clear("UNM-08-77 at 149", of_slot(8, 77, &[149]), 298.0 / 3.0),
     ]
@@ -162,28 +173,48 @@ fn frames_refused() -> Vec<Bench> {
 fn easy_errors() -> Vec<Bench> {
     let missing = case(layout(&[0x1025, 0x2000, 0x1025, 0x100B]), &[0x65, 1, 2, 3]);
     let lost = [8, 1, 8, 2, 8, 2, 8, 2, 10, 0, 11, 3];
+    let mut list = vec![accepted(
+        "a PRN of no table",
+        missing,
+        &[&FIRST_ITEM, &lost],
+    )];
+    list.extend(kind_3_responses());
+    list.extend(rows_over_sae());
+    list
+}
+
+/// The check byte over the response's data alone, and over all before it.
+fn kind_3_responses() -> Vec<Bench> {
     let first = checked(&[0x13, 0x41]);
-    let bare = layout_record(&Layout::of_key([0x13, 0, 1, 0x41]));
+    let layout = layout_record(&Layout::of_key([0x13, 0, 1, 0x41]));
     let over_data = checked(&[0xAB, 0xCD]);
-    let over_frame = vec![0xAB, 0xCD, check_byte(&[&first[..], &[0xAB, 0xCD]].concat())];
-    let kind_3 = |response| ReportCase::new(bare.clone(), (first.clone(), response));
+    let whole = [&first[..], &[0xAB, 0xCD]].concat();
+    let over_frame = vec![0xAB, 0xCD, check_byte(&whole)];
+    let case = |response| ReportCase::new(layout.clone(), (first.clone(), response));
+    let rows: [&[u8]; 1] = [&[9, 0, 8, 7, 11, 3]];
+    vec![
+        accepted(
+            "check byte over the response's data",
+            case(over_data),
+            &rows,
+        ),
+        refused("check byte over the whole frame", case(over_frame), 6),
+    ]
+}
+
+/// Records with the keys of SAE rows and other fields.
+fn rows_over_sae() -> Vec<Bench> {
     let prn = Prn {
         number: 102,
         ..prn_row(0x1025).expect("an SAE row")
     };
     let mut slot = slot_row((UNM, 8, 101)).expect("an SAE row");
     slot.offset = 1;
-    let over_sae = |record: Bytes| case([layout(&[0x1025]), record].concat(), &[0x65]);
+    let case = |record: Bytes| case([layout(&[0x1025]), record].concat(), &[0x65]);
+    let number = refused_answer(15, 38);
     vec![
-        accepted("a PRN of no table", missing, &[&FIRST_ITEM, &lost]),
-        accepted(
-            "check byte over the response's data",
-            kind_3(over_data),
-            &[&[9, 0, 8, 7, 11, 3]],
-        ),
-        refused("check byte over the whole frame", kind_3(over_frame), 6),
-        refused("an SAE PRN again", over_sae(prn_record(&prn)), refused_answer(15, 38)),
-        refused("an SAE SLOT again", over_sae(slot_record(&slot)), refused_answer(15, 38)),
+        refused("an SAE PRN again", case(prn_record(&prn)), number),
+        refused("an SAE SLOT again", case(slot_record(&slot)), number),
     ]
 }
 
@@ -203,12 +234,18 @@ mod tests {
     fn names_and_lengths() {
         let list = all();
         assert_eq!(list[0].rows.len(), 24);
-        assert_eq!(list[0].case.first[..6], [0x48, 0x6B, 0x10, 0x41, 0x65, 0x80]);
+        assert_eq!(
+            list[0].case.first[..6],
+            [0x48, 0x6B, 0x10, 0x41, 0x65, 0x80]
+        );
         for (place, bench) in list.iter().enumerate() {
             assert!(list[..place].iter().all(|other| other.name != bench.name));
             assert!(list[..place].iter().all(|other| other.case != bench.case));
         }
-        let full = list.iter().find(|bench| bench.name == "twelve bytes").unwrap();
+        let full = list
+            .iter()
+            .find(|bench| bench.name == "twelve bytes")
+            .unwrap();
         assert_eq!(full.case.first.len(), 12);
     }
 }

@@ -4,7 +4,8 @@
 use crate::frame::check_byte::checked;
 use crate::random::Random;
 use crate::report::case::{ReportCase, LONGEST};
-use crate::report::scene::{frame, own_rows, Sample, Scene};
+use crate::report::neighbours::near_layouts;
+use crate::report::scene::{frame, Sample, Scene};
 use crate::report::scene_random::scene;
 use crate::sae::form::UNM;
 use crate::sae::{Prn, PRNS, SLOTS};
@@ -62,9 +63,11 @@ fn kinds(random: &mut Random) -> Vec<ReportCase> {
 /// Layouts one field away from the one sought, without it and around it.
 fn near_keys(random: &mut Random) -> Vec<ReportCase> {
     let mut list = Vec::new();
-    for first_byte in [0x18, 0xF8, 0x48, 0xE8, 0x00, 0x12] {
-        for data in [0, 2] {
-            let scene = Scene::of(frame(first_byte, data, random));
+    for first_byte in [0xF8, 0x12, 0xE8, 0x00] {
+        for data in [vec![], vec![0, 0x65], vec![0x41, 0x65]] {
+            let mut frame = frame(first_byte, 0, random);
+            frame.data = data;
+            let scene = Scene::of(frame);
             let sought = scene.layout.with_prns(&[0x1025]);
             let near: Vec<Bytes> = near_layouts(&sought).iter().map(layout_record).collect();
             let sought = layout_record(&sought);
@@ -76,30 +79,10 @@ fn near_keys(random: &mut Random) -> Vec<ReportCase> {
                     list.push(ReportCase::new(all.concat(), scene.frame.runs()));
                 }
             }
+            let last = [near.concat(), sought].concat();
+            list.push(ReportCase::new(last, scene.frame.runs()));
         }
     }
-    list
-}
-
-/// Acceptable layouts that differ from this one in one field of the key.
-fn near_layouts(sought: &Layout) -> Vec<Layout> {
-    let mut list = Vec::new();
-    let mut add = |change: &dyn Fn(&mut Layout)| {
-        let mut layout = *sought;
-        change(&mut layout);
-        if crate::supplement::answer(&layout_record(&layout)) == 0 {
-            list.push(layout);
-        }
-    };
-    for bit in 0..8 {
-        add(&|layout| layout.first_byte ^= 1 << bit);
-    }
-    add(&|layout| layout.target ^= 0x01);
-    add(&|layout| layout.target ^= 0x80);
-    add(&|layout| layout.selector ^= 0x01);
-    add(&|layout| layout.selector ^= 0x80);
-    add(&|layout| layout.present ^= 1);
-    add(&|layout| (layout.present, layout.selector) = (0, 0));
     list
 }
 
@@ -218,7 +201,7 @@ fn lent_longest(random: &mut Random) -> Vec<ReportCase> {
 /// turned over.
 fn random_scenes(random: &mut Random) -> Vec<ReportCase> {
     let mut list = Vec::new();
-    while list.len() < 380 {
+    while list.len() < 350 {
         let scene = scene(random);
         let mut records = scene.records();
         if random.once_in(3) {
@@ -271,15 +254,6 @@ mod tests {
             let supplement = [bench_layout(), faulty_record(number)].concat();
             let answer = crate::supplement::answer(&supplement);
             assert_eq!(answer, u64::from(number) | 38 << 8);
-        }
-    }
-
-    #[test]
-    fn own_rows_are_in_no_sae_table() {
-        for place in 0..20 {
-            let (prn, slot) = own_rows(place, UNM, 8);
-            assert!(!crate::sae::has_prn(prn.prn));
-            assert!(!crate::sae::has_slot(slot.key()));
         }
     }
 }

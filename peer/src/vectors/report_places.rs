@@ -102,6 +102,8 @@ fn rules_together(random: &mut Random) -> Vec<ReportCase> {
         list.push(in_frame(&[last], 1, random));
         list.push(in_frame(&[last], 10, random));
     }
+    let wide = items()[6];
+    list.push(in_frame(&[wide, wide], 10, random));
     list.push(in_frame(&[missing, missing], 8, random));
     list.push(in_frame(&[long, missing], 8, random));
     list
@@ -114,7 +116,11 @@ fn odd_items() -> Vec<Sample> {
     for form in UNM..=PKT {
         for width in [8, 9, 40, 42] {
             let (prn, slot) = own_rows(4, form, width);
-            let slot = Slot { lowest: 1, highest: 7, ..slot };
+            let slot = Slot {
+                lowest: 1,
+                highest: 7,
+                ..slot
+            };
             list.push(Sample::own(prn, Some(slot), 0));
             list.push(Sample::own(prn, None, u64::MAX));
         }

@@ -15,6 +15,7 @@ pub fn cases(random: &mut Random) -> Vec<ReportCase> {
         sae_slots(random),
         sae_prns_with_own_slots(random),
         sources(random),
+        near_slots(random),
         orders(random),
     ];
     groups.into_iter().flatten().collect()
@@ -122,11 +123,36 @@ fn sources(random: &mut Random) -> Vec<ReportCase> {
     list
 }
 
+/// PRNs that name a SLOT one field away from one of the SAE tables or of the
+/// supplement.
+fn near_slots(random: &mut Random) -> Vec<ReportCase> {
+    let mut list = Vec::new();
+    for (form, width, number) in [(UNM, 8, 101), (BMP, 8, 1), (SED, 8, 7), (UNM, 8, 1000)] {
+        for (form, width, number) in [
+            (form + 1, width, number),
+            (form, width + 1, number),
+            (form, width, number + 256),
+            (form, width, number + 900),
+        ] {
+            let prn = Prn::new(OWN_PRN, form, width, number);
+            let mut own = Sample::own(prn, None, 1);
+            list.push(Scene::holding(0x18, &[own], random).case());
+            own.slot = Some(whole_slot(UNM, 8, 1000));
+            list.push(Scene::holding(0x18, &[own], random).case());
+        }
+    }
+    list
+}
+
 /// One scene with its records in several orders, and others among them.
 fn orders(random: &mut Random) -> Vec<ReportCase> {
     let mut list = Vec::new();
     for _ in 0..24 {
-        let rows = [own_rows(0, UNM, 5), own_rows(1, SNM, 6), own_rows(2, BCD, 8)];
+        let rows = [
+            own_rows(0, UNM, 5),
+            own_rows(1, SNM, 6),
+            own_rows(2, BCD, 8),
+        ];
         let samples = rows.map(|(prn, slot)| Sample::own(prn, Some(slot), 0x15));
         let scene = Scene::holding(0x18, &samples, random);
         let mut records = scene.records();

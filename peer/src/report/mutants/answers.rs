@@ -156,7 +156,7 @@ pub const OTHERS: [Named; 26] = [
     ("rest of the output cleared", |request| {
         match answer(request) {
             (number, mut rows) if number & 0xFF == 0 => {
-                rows.resize(request.out_length, 0);
+                rows.resize(request.out_length.min(200), 0);
                 (number, rows)
             }
             answer => answer,
@@ -165,12 +165,11 @@ pub const OTHERS: [Named; 26] = [
     ("nothing put", |request| (answer(request).0, Vec::new())),
     ("kind 3 check over the whole frame", |request| {
         let given = answer(request);
-        let Some((last, data)) = request.response.split_last() else {
+        if given.0 & 0xFF != 0 || kind_of_run(request.first) != Some(3) {
             return given;
-        };
-        let whole = check_byte(&[request.first, data].concat());
-        let is_read = given.0 & 0xFF == 0 && kind_of_run(request.first) == Some(3);
-        if is_read && *last != whole {
+        }
+        let (last, data) = request.response.split_last().expect("a response");
+        if *last != check_byte(&[request.first, data].concat()) {
             refused(6)
         } else {
             given

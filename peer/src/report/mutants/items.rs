@@ -1,15 +1,16 @@
 //! Faults in the rules of an item's line.
 
+use super::numbers::NUMBERS;
 use super::with_item_rule;
 use crate::report::bits::signed;
-use crate::report::double::quotient;
-use crate::report::item::{above, is_outside, limits, pieces, raw_number, Item, RULES};
+use crate::report::item::{is_outside, limits, pieces, raw_number, Item, RULES};
 use crate::report::line::Line;
 use crate::report::Rules;
 use crate::sae::form::*;
 use crate::sae::{all_ones, Slot};
 
-type Changed = (usize, &'static str, fn(&Item) -> Option<Line>);
+/// The place of a rule, what is wrong, and the rule instead.
+pub type Changed = (usize, &'static str, fn(&Item) -> Option<Line>);
 
 pub fn changed_rules() -> Vec<(String, Rules)> {
     let mut list = Vec::new();
@@ -26,12 +27,19 @@ fn end(item: &Item) -> usize {
     item.end().unwrap_or(0)
 }
 
-fn is_form(item: &Item, forms: &[u8]) -> bool {
+pub fn is_form(item: &Item, forms: &[u8]) -> bool {
     item.prn.is_some_and(|prn| forms.contains(&prn.form))
 }
 
 fn unknown_if(is: bool, number: u8) -> Option<Line> {
     is.then_some(Line::Unknown(number))
+}
+
+/// The rule about forms, with Bits for some of them.
+fn shown_of(item: &Item, forms: &[u8]) -> Option<Line> {
+    let line = (RULES[5].line)(item)?;
+    let is_shown = is_form(item, forms);
+    Some(if is_shown { Line::Bits(item.raw) } else { line })
 }
 
 const PLACES: &[Changed] = &[
@@ -52,20 +60,14 @@ const PLACES: &[Changed] = &[
     (3, "a byte later", |item| {
         (end(item) >= item.bits + 8).then_some(Line::Short)
     }),
-    (3, "by whole bytes", |item| {
-        (end(item).div_ceil(8) * 8 > item.bits + 7).then_some(Line::Short)
-    }),
     (3, "Unknown 2", |item| unknown_if(end(item) > item.bits, 2)),
     (4, "another number", |item| {
         unknown_if(item.prn.is_some() && item.slot.is_none(), 4)
     }),
-    (5, "PKT alone", |item| unknown_if(is_form(item, &[PKT]), 4)),
-    (5, "without BMM", |item| {
-        unknown_if(is_form(item, &[SFP, PKT]), 4)
-    }),
-    (5, "without SFP", |item| {
-        unknown_if(is_form(item, &[BMM, PKT]), 4)
-    }),
+    (5, "PKT alone", |item| shown_of(item, &[BMM, SFP])),
+    (5, "without BMM", |item| shown_of(item, &[BMM])),
+    (5, "without SFP", |item| shown_of(item, &[SFP])),
+    (5, "without PKT", |item| shown_of(item, &[PKT])),
     (5, "BCD too", |item| {
         unknown_if(is_form(item, &[BCD, BMM, SFP, PKT]), 4)
     }),
@@ -190,206 +192,6 @@ const OUTSIDE: &[Changed] = &[
         unknown_if(is_form(item, &[SED]) && is_outside(item), 4)
     }),
 ];
-
-/// A Number if it is one, with the double of the SLOT and the raw number.
-fn number(item: &Item, value: fn(&Slot, i64) -> f64) -> Option<Line> {
-    let slot = item.slot.filter(|_| is_form(item, &[UNM, SNM]))?;
-    let value = value(&slot, raw_number(&slot, item.raw));
-    Some(Line::Number(value.to_bits()))
-}
-
-/// The fields as doubles: multiplier, divisor and offset.
-fn scale(slot: &Slot) -> (f64, f64, f64) {
-    let Slot {
-        multiplier,
-        divisor,
-        offset,
-        ..
-    } = slot;
-    (
-        f64::from(*multiplier),
-        f64::from(*divisor),
-        f64::from(*offset),
-    )
-}
-
-fn divided(above: i64, divisor: u16) -> f64 {
-    f64::from_bits(quotient(above, divisor))
-}
-
-const NUMBERS: &[Changed] = &[
-    (8, "offset added after", |item| {
-        number(item, |slot, n| {
-            let (m, d, o) = scale(slot);
-            n as f64 * m / d + o
-        })
-    }),
-    (8, "divided twice", |item| {
-        number(item, |slot, n| {
-            let (m, d, o) = scale(slot);
-            n as f64 * m / d + o / d
-        })
-    }),
-    (8, "multiplied by a quotient", |item| {
-        number(item, |slot, n| {
-            let (m, d, o) = scale(slot);
-            n as f64 * (m / d) + o / d
-        })
-    }),
-    (8, "multiplied by the inverse", |item| {
-        number(item, |slot, n| {
-            above(slot, n) as f64 * (1.0 / scale(slot).1)
-        })
-    }),
-    (8, "in single precision", |item| {
-        number(item, |slot, n| {
-            f64::from(above(slot, n) as f32 / f32::from(slot.divisor))
-        })
-    }),
-    (8, "rounded to single precision", |item| {
-        number(item, |slot, n| {
-            f64::from(divided(above(slot, n), slot.divisor) as f32)
-        })
-    }),
-    (8, "cut, not rounded", |item| {
-        number(item, |slot, n| {
-            rounded_otherwise(above(slot, n), slot.divisor, false)
-        })
-    }),
-    (8, "rounded away", |item| {
-        number(item, |slot, n| {
-            rounded_otherwise(above(slot, n), slot.divisor, true)
-        })
-    }),
-    (8, "whole numbers alone", |item| {
-        number(item, |slot, n| {
-            (above(slot, n) / i64::from(slot.divisor)) as f64
-        })
-    }),
-    (8, "minus zero", |item| {
-        number(item, |slot, n| match above(slot, n) {
-            0 if slot.offset < 0 => -0.0,
-            above => divided(above, slot.divisor),
-        })
-    }),
-    (8, "minus zero by the sign of N", |item| {
-        number(item, |slot, n| match above(slot, n) {
-            0 if n < 0 => -0.0,
-            above => divided(above, slot.divisor),
-        })
-    }),
-    (8, "N without a sign", |item| {
-        let slot = item.slot.filter(|_| is_form(item, &[UNM, SNM]))?;
-        let value = divided(above(&slot, i64::from(item.raw)), slot.divisor);
-        Some(Line::Number(value.to_bits()))
-    }),
-    (8, "N always with a sign", |item| {
-        let slot = item.slot.filter(|_| is_form(item, &[UNM, SNM]))?;
-        let value = divided(above(&slot, signed(item.raw, slot.width)), slot.divisor);
-        Some(Line::Number(value.to_bits()))
-    }),
-    (8, "N with the sign of 32 bits", |item| {
-        let slot = item.slot.filter(|_| is_form(item, &[UNM, SNM]))?;
-        let n = match slot.form {
-            SNM => i64::from(item.raw as i32),
-            _ => i64::from(item.raw),
-        };
-        Some(Line::Number(quotient(above(&slot, n), slot.divisor)))
-    }),
-    (8, "N with the sign of 16 bits", |item| {
-        let slot = item.slot.filter(|_| is_form(item, &[UNM, SNM]))?;
-        let n = match (slot.form, slot.width) {
-            (SNM, 17..) => i64::from(item.raw as i16),
-            _ => raw_number(&slot, item.raw),
-        };
-        Some(Line::Number(quotient(above(&slot, n), slot.divisor)))
-    }),
-    (8, "offset without a sign", |item| {
-        number(item, |slot, n| {
-            let above = n * i64::from(slot.multiplier) + i64::from(slot.offset as u32);
-            divided(above, slot.divisor)
-        })
-    }),
-    (8, "offset in 16 bits", |item| {
-        number(item, |slot, n| {
-            let above = n * i64::from(slot.multiplier) + i64::from(slot.offset as i16);
-            divided(above, slot.divisor)
-        })
-    }),
-    (8, "in 32 bits", |item| {
-        number(item, |slot, n| {
-            divided(i64::from(above(slot, n) as i32), slot.divisor)
-        })
-    }),
-    (8, "multiplied in 32 bits", |item| {
-        number(item, |slot, n| {
-            let product = n.wrapping_mul(i64::from(slot.multiplier)) as i32;
-            divided(i64::from(product) + i64::from(slot.offset), slot.divisor)
-        })
-    }),
-    (8, "sum in 32 bits without a sign", |item| {
-        number(item, |slot, n| match above(slot, n) {
-            above @ 0.. => divided(i64::from(above as u32), slot.divisor),
-            above => divided(above, slot.divisor),
-        })
-    }),
-    (8, "multiplier with a sign", |item| {
-        number(item, |slot, n| {
-            let above = n * i64::from(slot.multiplier as i16) + i64::from(slot.offset);
-            divided(above, slot.divisor)
-        })
-    }),
-    (8, "divisor with a sign", |item| {
-        number(item, |slot, n| {
-            above(slot, n) as f64 / f64::from(slot.divisor as i16)
-        })
-    }),
-    (8, "without the multiplier", |item| {
-        number(item, |slot, n| {
-            divided(n + i64::from(slot.offset), slot.divisor)
-        })
-    }),
-    (8, "without the divisor", |item| {
-        number(item, |slot, n| above(slot, n) as f64)
-    }),
-    (8, "without the offset", |item| {
-        number(item, |slot, n| {
-            divided(n * i64::from(slot.multiplier), slot.divisor)
-        })
-    }),
-    (8, "offset multiplied too", |item| {
-        number(item, |slot, n| {
-            let sum = n + i64::from(slot.offset);
-            divided(sum * i64::from(slot.multiplier), slot.divisor)
-        })
-    }),
-    (8, "unsigned alone", |item| {
-        let line = (RULES[8].line)(item)?;
-        let is_signed = is_form(item, &[SNM]);
-        Some(if is_signed {
-            Line::Bits(item.raw)
-        } else {
-            line
-        })
-    }),
-];
-
-/// The double toward zero, or the one away from it, where none is exact.
-fn rounded_otherwise(above: i64, divisor: u16, is_away: bool) -> f64 {
-    let nearest = divided(above, divisor);
-    let (mut bits, divisor) = (nearest.to_bits(), i128::from(divisor));
-    // the double times 2^60 is a whole number, or no digit of it is lost
-    let scaled = (nearest * (1_u64 << 60) as f64) as i128;
-    let exact = i128::from(above) << 60;
-    let (given, exact) = ((scaled * divisor).abs(), exact.abs());
-    if !is_away && given > exact {
-        bits -= 1;
-    }
-    if is_away && given < exact {
-        bits += 1;
-    }
-    f64::from_bits(bits)
-}
 
 /// Invalid if one of the pieces of `size` bits is.
 fn invalid_pieces(item: &Item, form: u8, size: u32, is_bad: fn(u64) -> bool) -> Option<Line> {

@@ -1,0 +1,179 @@
+//! What a report keeps when records are added to the supplement or taken away,
+//! told from the rows that the archive gives.
+
+use super::lent::Lent;
+use super::promise_random::{self, Pair};
+use super::report::{call_with, Call};
+use super::Outcome;
+use crate::random::Random;
+use crate::report::case::LONGEST;
+use crate::report::promise::broken_sentences;
+use crate::report::rows::{is_short, is_unknown, left, parse, unknown_number, Rows};
+use crate::report::scene::parts_of;
+use crate::report::{layout_key, RULES};
+use crate::supplement::records::Records;
+use crate::text::hex;
+
+/// The classes of which `run` must have a case.
+pub fn classes() -> Vec<String> {
+    let names = [
+        "same report",
+        "item turned Unknown 1",
+        "item turned Unknown 2",
+        "item turned Unknown 3",
+        "item of another Unknown number",
+        "item lines missing",
+        "layout in neither",
+        "remainder turned Unknown 2",
+        "remainder turned Unknown 8",
+        "Left turned Unknown",
+        "Short turned Unknown",
+        "Clear stays",
+        "Flagged stays",
+        "Unknown stays",
+        "Clear turned Unknown",
+        "Flagged turned Unknown",
+        "widths and Left",
+        "widths and Left, not 0",
+    ];
+    names.map(String::from).to_vec()
+}
+
+/// Tries `count` random pairs of supplements with a frame.
+pub fn run(call: Call, count: u64, seed: u64) -> Outcome {
+    let mut random = Random::new(seed);
+    let mut outcome = Outcome::default();
+    while outcome.cases < count && !outcome.has_enough() {
+        outcome.cases += 1;
+        let pair = promise_random::pair(&mut random);
+        if let Err(text) = try_pair(call, &pair, &mut random, &mut outcome) {
+            outcome.differences.push(format!("{text}\n  {pair}"));
+        }
+    }
+    outcome
+}
+
+fn try_pair(
+    call: Call,
+    pair: &Pair,
+    random: &mut Random,
+    outcome: &mut Outcome,
+) -> Result<(), String> {
+    let fewer = report(call, &pair.fewer, pair, random)?;
+    let more = report(call, &pair.more, pair, random)?;
+    let no_rows = |bytes: &[u8]| format!("no rows of a report: {}", hex(bytes));
+    let fewer_rows = parse(&fewer).ok_or_else(|| no_rows(&fewer))?;
+    let more_rows = parse(&more).ok_or_else(|| no_rows(&more))?;
+    let key = layout_key(&parts_of(&pair.frame));
+    let has_layout = Records::of(&pair.fewer).layout(key).is_some();
+    let mut broken = broken_sentences(&fewer_rows, &more_rows, has_layout);
+    for (supplement, rows) in [(&pair.fewer, &fewer_rows), (&pair.more, &more_rows)] {
+        broken.extend(try_widths(supplement, pair, rows, outcome));
+    }
+    count(&fewer_rows, &more_rows, outcome);
+    if broken.is_empty() {
+        return Ok(());
+    }
+    let (fewer, more) = (hex(&fewer), hex(&more));
+    let sentences = broken.join("; ");
+    Err(format!("{sentences}\n  fewer {fewer}\n  more  {more}"))
+}
+
+/// The rows of an accepted supplement and frame.
+fn report(
+    call: Call,
+    supplement: &[u8],
+    pair: &Pair,
+    random: &mut Random,
+) -> Result<Vec<u8>, String> {
+    let (first, response) = pair.frame.runs();
+    let mut lent = [
+        Lent::holding(supplement, random),
+        Lent::holding(&first, random),
+        Lent::holding(&response, random),
+        Lent::filled(LONGEST, random),
+    ];
+    let answer = call_with(call, &mut lent);
+    let length = (answer >> 8) as usize;
+    if answer & 0xFF != 0 || length > LONGEST {
+        return Err(format!("answer {answer:016X} to an accepted supplement"));
+    }
+    Ok(lent[3].held()[..length].to_vec())
+}
+
+/// Item widths plus Left equal the bits after the selector, if no line is
+/// Short or lost.
+fn try_widths(
+    supplement: &[u8],
+    pair: &Pair,
+    rows: &Rows,
+    outcome: &mut Outcome,
+) -> Option<&'static str> {
+    let parts = parts_of(&pair.frame);
+    let records = Records::of(supplement);
+    let layout = records.layout(layout_key(&parts))?;
+    let is_lost = |line: &&[u8]| matches!(unknown_number(line), Some(1 | 2));
+    let lines = rows.lines();
+    if lines.iter().any(|line| is_short(line) || is_lost(line)) {
+        return None;
+    }
+    outcome.count("widths and Left".to_string());
+    let widths = layout.used().iter().map(|prn| {
+        let row = (RULES.prn)(&records, *prn);
+        row.map_or(0, |row| usize::from(row.width))
+    });
+    let bits = 8 * parts.data.len().saturating_sub(1);
+    let left = left(rows.remainder);
+    if left.is_some_and(|left| left > 0) {
+        outcome.count("widths and Left, not 0".to_string());
+    }
+    let is_kept = left.is_some_and(|left| widths.sum::<usize>() + left == bits);
+    (!is_kept).then_some("widths and Left equal the bits after the selector")
+}
+
+/// What the fewer records changed.
+fn count(fewer: &Rows, more: &Rows, outcome: &mut Outcome) {
+    if fewer == more {
+        outcome.count("same report".to_string());
+    }
+    for (fewer, more) in fewer.items.iter().zip(&more.items) {
+        match (unknown_number(fewer), unknown_number(more)) {
+            (Some(number), None) => outcome.count(format!("item turned Unknown {number}")),
+            (Some(a), Some(b)) if a != b => {
+                outcome.count("item of another Unknown number".to_string());
+            }
+            _ => {}
+        }
+    }
+    if fewer.items.len() < more.items.len() {
+        outcome.count("item lines missing".to_string());
+    }
+    count_remainders(fewer.remainder, more.remainder, outcome);
+    let names = ["", "Clear", "Flagged", "Unknown"];
+    let [before, after] = [more, fewer].map(|rows| names[usize::from(rows.verdict)]);
+    if before == after {
+        outcome.count(format!("{before} stays"));
+    } else {
+        outcome.count(format!("{before} turned {after}"));
+    }
+}
+
+fn count_remainders(fewer: &[u8], more: &[u8], outcome: &mut Outcome) {
+    match (unknown_number(fewer), unknown_number(more)) {
+        (Some(8), Some(8)) => outcome.count("layout in neither".to_string()),
+        (Some(number), other) if other != Some(number) => {
+            outcome.count(format!("remainder turned Unknown {number}"));
+        }
+        _ => {}
+    }
+    if is_unknown(fewer) && left(more).is_some() {
+        outcome.count("Left turned Unknown".to_string());
+    }
+    if is_unknown(fewer) && is_short(more) {
+        outcome.count("Short turned Unknown".to_string());
+    }
+}
+
+#[cfg(test)]
+#[path = "promise_tests.rs"]
+mod tests;
