@@ -39,15 +39,24 @@ fn put_number(x: u64, n: usize, out: &mut [u8], at: usize)
     }
 }
 
+// A kind and a number in so many bytes.
+fn put_body(kind: u8, x: u64, n: usize, out: &mut [u8], at: usize) -> usize
+    requires { ⌜ (n ≤ 8) × (at + 1 + n ≤ length (now out)) ⌝ }
+    ensures placed { λ r. ⌜ now (out .exit) ≡ placed (now (out .entry)) at (kind ∷ bigEndian n x) ⌝ }
+    ensures size { λ r. ⌜ r ≡ at + 1 + n ⌝ }
+{
+    out[at] = kind;
+    put_number(x, n, out, at + 1);
+    at + 1 + n
+}
+
 // A kind and a double.
 fn put_double(kind: u8, x: f64, out: &mut [u8], at: usize) -> usize
     requires { ⌜ (isNan x ≡ false) × (at + 9 ≤ length (now out)) ⌝ }
     ensures placed { λ r. ⌜ now (out .exit) ≡ placed (now (out .entry)) at (kind ∷ bigEndian 8 (toBits binary64 x)) ⌝ }
     ensures size { λ r. ⌜ r ≡ at + 9 ⌝ }
 {
-    out[at] = kind;
-    put_number(f64::to_bits(x), DOUBLE_BYTES, out, at + 1);
-    at + DOUBLE_ROW
+    put_body(kind, f64::to_bits(x), DOUBLE_BYTES, out, at)
 }
 
 // A kind and a code.
@@ -56,9 +65,7 @@ fn put_code(kind: u8, code: u32, out: &mut [u8], at: usize) -> usize
     ensures placed { λ r. ⌜ now (out .exit) ≡ placed (now (out .entry)) at (kind ∷ bigEndian 4 code) ⌝ }
     ensures size { λ r. ⌜ r ≡ at + 5 ⌝ }
 {
-    out[at] = kind;
-    put_number(code as u64, CODE_BYTES, out, at + 1);
-    at + CODE_ROW
+    put_body(kind, code as u64, CODE_BYTES, out, at)
 }
 
 // A kind and a byte.

@@ -5,8 +5,8 @@ use lib.ListN.{length-set}
 use Rattle.report.specs.Rows.{bigEndian}
 use Rattle.report.proofs.RowsLaws.{kind-behind}
 use borrow.Author.Needs.{needs}
-use Rattle.report.proofs.rows.put_code.Statement.{statement}
-use Rattle.report.proofs.rows.put_code.Tie as tie
+use Rattle.report.proofs.rows.put_body.Statement.{statement}
+use Rattle.report.proofs.rows.put_body.Tie as tie
 
 slice-write-out : tie.Need-slice-write-out
 slice-write-out c = search needs
@@ -15,18 +15,23 @@ add-put-number : tie.Need-add-put-number
 add-put-number c = search needs
 
 put-number-requires : tie.Need-put-number-requires
-put-number-requires c κs = simp length-set (omega arith)
+put-number-requires c κs = search needs
 
 add-result : tie.Need-add-result
 add-result c = search needs
+
+add-result-2 : tie.Need-add-result-2
+add-result-2 c = search needs
 
 same-length : tie.Need-same-length
 same-length c = c .before .before .put-number .kept .1 .1 .0 ∙ simp length-set
 
 returns : tie.Need-returns
-returns c = (kind-behind (c .before .before .before .before .before .args .out .now) (c .before .before .before .before .before .args .at) (c .before .before .before .before .before .args .kind) (bigEndian 4 (c .before .before .before .before .before .args .code)) (c .before .before .put-number .ensures) (omega arith), refl)
+returns c =
+    let args = c .before .before .before .before .before .args in
+    (kind-behind (args .out .now) (args .at) (args .kind) (bigEndian (args .n) (args .x)) (c .before .before .put-number .ensures) (omega arith), refl)
 
-pub put-code-spec : {M : Type 1} → statement M
-put-code-spec =
+pub put-body-spec : {M : Type 1} → statement M
+put-body-spec =
     tie.close
-    (tie.spec slice-write-out add-put-number put-number-requires add-result same-length returns)
+    (tie.spec slice-write-out add-put-number put-number-requires add-result add-result-2 same-length returns)
