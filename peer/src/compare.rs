@@ -13,6 +13,23 @@ mod supplement_random;
 
 use std::collections::BTreeMap;
 
+/// The calls that are made only where memory suffices.
+const LONG_RUNS: &str = "runs over 32 bits";
+
+/// The class of an answer: accepted, or refused with its number.
+fn class(answer: u64) -> String {
+    match answer & 0xFF {
+        0 => "accepted".to_string(),
+        number => format!("refused {number}"),
+    }
+}
+
+/// The classes that must have a case, and the calls that may have none.
+fn with_long_runs(mut classes: Vec<String>) -> Vec<String> {
+    classes.push(LONG_RUNS.to_string());
+    classes
+}
+
 /// After this many differences the comparing stops.
 const ENOUGH: usize = 10;
 
@@ -25,6 +42,26 @@ pub struct Outcome {
 }
 
 impl Outcome {
+    /// The long runs and what differed in them, then `count` cases, each
+    /// compared by `compare`, unless enough differ.
+    fn of(
+        (long, differences): (u64, Vec<String>),
+        count: u64,
+        mut compare: impl FnMut(&mut Outcome),
+    ) -> Outcome {
+        let counts = BTreeMap::from([(LONG_RUNS.to_string(), long)]);
+        let mut outcome = Outcome {
+            cases: 0,
+            differences,
+            counts,
+        };
+        while outcome.cases < count && !outcome.has_enough() {
+            outcome.cases += 1;
+            compare(&mut outcome);
+        }
+        outcome
+    }
+
     fn has_enough(&self) -> bool {
         self.differences.len() >= ENOUGH
     }

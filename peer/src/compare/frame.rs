@@ -1,7 +1,7 @@
 //! Comparing the two frame calls.
 
 use super::lent::Lent;
-use super::{frame_random, long_runs, Outcome};
+use super::{class, frame_random, long_runs, with_long_runs, Outcome};
 use crate::frame::case::FrameCase;
 use crate::frame::draft::Draft;
 use crate::frame::reader;
@@ -62,10 +62,10 @@ impl FrameCalls {
 
 /// The classes of which `run` must have a case.
 pub fn classes() -> Vec<String> {
-    let mut classes = vec![class(true, 0)];
-    classes.extend((1..=6).map(|number| class(true, number)));
-    classes.push(class(false, 0));
-    classes.extend([7, 4, 5, 1, 8].map(|number| class(false, number)));
+    let mut classes = vec![call_class(true, 0)];
+    classes.extend((1..=6).map(|number| call_class(true, number)));
+    classes.push(call_class(false, 0));
+    classes.extend([7, 4, 5, 1, 8].map(|number| call_class(false, number)));
     classes.extend([WRITTEN_AGAIN, READ_BACK, NULL_RUNS].map(String::from));
     classes
 }
@@ -73,41 +73,29 @@ pub fn classes() -> Vec<String> {
 const WRITTEN_AGAIN: &str = "written again";
 const READ_BACK: &str = "read back";
 const NULL_RUNS: &str = "NULL runs";
-const LONG_RUNS: &str = "runs over 32 bits";
 
 /// Those classes, and the calls that are made only where memory suffices.
 pub fn shown_classes() -> Vec<String> {
-    let mut shown = classes();
-    shown.push(LONG_RUNS.to_string());
-    shown
+    with_long_runs(classes())
 }
 
-fn class(is_read: bool, answer: u64) -> String {
+fn call_class(is_read: bool, answer: u64) -> String {
     let call = if is_read { "read" } else { "write" };
-    match answer & 0xFF {
-        0 => format!("{call} accepted"),
-        number => format!("{call} refused {number}"),
-    }
+    format!("{call} {}", class(answer))
 }
 
 /// Compares `count` random cases.
 pub fn run(calls: &FrameCalls, count: u64, seed: u64) -> Outcome {
     let mut random = Random::new(seed);
-    let mut outcome = Outcome::default();
-    let (long, differences) = long_runs::compare(calls);
-    outcome.counts.insert(LONG_RUNS.to_string(), long);
-    outcome.differences = differences;
-    while outcome.cases < count && !outcome.has_enough() {
-        outcome.cases += 1;
+    Outcome::of(long_runs::compare(calls), count, |outcome| {
         let case = frame_random::case(&mut random);
         let (answer, written) = case.answer();
-        outcome.count(class(case.is_read(), answer));
-        let same = compare_case(calls, &case, &mut random, &mut outcome);
+        outcome.count(call_class(case.is_read(), answer));
+        let same = compare_case(calls, &case, &mut random, outcome);
         if same && answer & 0xFF == 0 {
-            compare_other_way(calls, &case, &written, &mut random, &mut outcome);
+            compare_other_way(calls, &case, &written, &mut random, outcome);
         }
-    }
-    outcome
+    })
 }
 
 /// An accepted frame's parts written again, or what was written read back.

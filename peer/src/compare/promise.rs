@@ -42,15 +42,12 @@ pub fn classes() -> Vec<String> {
 /// Tries `count` random pairs of supplements with a frame.
 pub fn run(call: Call, count: u64, seed: u64) -> Outcome {
     let mut random = Random::new(seed);
-    let mut outcome = Outcome::default();
-    while outcome.cases < count && !outcome.has_enough() {
-        outcome.cases += 1;
+    Outcome::of((0, Vec::new()), count, |outcome| {
         let pair = promise_random::pair(&mut random);
-        if let Err(text) = try_pair(call, &pair, &mut random, &mut outcome) {
+        if let Err(text) = try_pair(call, &pair, &mut random, outcome) {
             outcome.differences.push(format!("{text}\n  {pair}"));
         }
-    }
-    outcome
+    })
 }
 
 fn try_pair(

@@ -1,7 +1,7 @@
 //! Comparing the report.
 
 use super::lent::Lent;
-use super::{long_runs, report_random, Outcome};
+use super::{class, long_runs, report_random, with_long_runs, Outcome};
 use crate::random::Random;
 use crate::report::case::ReportCase;
 use crate::report::rows::{parse, unknown_number};
@@ -15,7 +15,6 @@ pub type Run = (*const u8, usize);
 pub type Call<'a> = &'a dyn Fn([Run; 3], (*mut u8, usize)) -> u64;
 
 const NULL_RUNS: &str = "NULL runs";
-const LONG_RUNS: &str = "runs over 32 bits";
 
 /// The classes of which `run` must have a case.
 pub fn classes() -> Vec<String> {
@@ -31,31 +30,16 @@ pub fn classes() -> Vec<String> {
 
 /// Those classes, and the calls that are made only where memory suffices.
 pub fn shown_classes() -> Vec<String> {
-    let mut shown = classes();
-    shown.push(LONG_RUNS.to_string());
-    shown
-}
-
-fn class(answer: u64) -> String {
-    match answer & 0xFF {
-        0 => "accepted".to_string(),
-        number => format!("refused {number}"),
-    }
+    with_long_runs(classes())
 }
 
 /// Compares `count` random pairs of supplement and frame.
 pub fn run(call: Call, count: u64, seed: u64) -> Outcome {
     let mut random = Random::new(seed);
-    let mut outcome = Outcome::default();
-    let (long, differences) = long_runs::compare_reports(call);
-    outcome.counts.insert(LONG_RUNS.to_string(), long);
-    outcome.differences = differences;
-    while outcome.cases < count && !outcome.has_enough() {
-        outcome.cases += 1;
+    Outcome::of(long_runs::compare_reports(call), count, |outcome| {
         let case = report_random::case(&mut random);
-        compare_case(call, &case, &mut random, &mut outcome);
-    }
-    outcome
+        compare_case(call, &case, &mut random, outcome);
+    })
 }
 
 /// Makes one call; compares its number and all memory around what was lent.

@@ -1,7 +1,7 @@
 //! Comparing the supplement's test.
 
 use super::lent::Lent;
-use super::{long_runs, supplement_random, Outcome};
+use super::{class, long_runs, supplement_random, with_long_runs, Outcome};
 use crate::random::Random;
 use crate::supplement::answer;
 use crate::text::{hex, hex_answer};
@@ -10,7 +10,6 @@ use crate::text::{hex, hex_answer};
 pub type Check<'a> = &'a dyn Fn(*const u8, usize) -> u64;
 
 const NULL_RUN: &str = "NULL run";
-const LONG_RUNS: &str = "runs over 32 bits";
 
 /// The classes of which `run` must have a case.
 pub fn classes() -> Vec<String> {
@@ -22,27 +21,13 @@ pub fn classes() -> Vec<String> {
 
 /// Those classes, and the calls that are made only where memory suffices.
 pub fn shown_classes() -> Vec<String> {
-    let mut shown = classes();
-    shown.push(LONG_RUNS.to_string());
-    shown
-}
-
-fn class(answer: u64) -> String {
-    match answer & 0xFF {
-        0 => "accepted".to_string(),
-        number => format!("refused {number}"),
-    }
+    with_long_runs(classes())
 }
 
 /// Compares `count` random and damaged supplements.
 pub fn run(check: Check, count: u64, seed: u64) -> Outcome {
     let mut random = Random::new(seed);
-    let mut outcome = Outcome::default();
-    let (long, differences) = long_runs::compare_supplements(check);
-    outcome.counts.insert(LONG_RUNS.to_string(), long);
-    outcome.differences = differences;
-    while outcome.cases < count && !outcome.has_enough() {
-        outcome.cases += 1;
+    Outcome::of(long_runs::compare_supplements(check), count, |outcome| {
         let supplement = supplement_random::supplement(&mut random);
         let lent = Lent::holding(&supplement, &mut random);
         if lent.is_null() {
@@ -53,8 +38,7 @@ pub fn run(check: Check, count: u64, seed: u64) -> Outcome {
         outcome
             .differences
             .extend(difference(check, lent, expected));
-    }
-    outcome
+    })
 }
 
 /// Makes one call; compares its number and all memory around what was lent.
