@@ -24,6 +24,15 @@ pub one : (s : List ℕ) → (bitH (getD s 0 0) ≡ 0 → ⊥) → headerSize s 
 unfolding headerSize
 one s e = rw (ne-eqb (bitH (getD s 0 0)) 0 e)
 
+-- Three bytes exactly where H is 0, as tests.
+pub three-exactly : (s : List ℕ) → eqb (bitH (getD s 0 0)) 0 ≡ eqb (headerSize s) 3
+unfolding headerSize
+three-exactly s = go (eqb (bitH (getD s 0 0)) 0)
+  where
+    go : (t : Bool) → t ≡ eqb (cond t 3 1) 3
+    go true = refl
+    go false = refl
+
 -- A header has one byte or three.
 pub one-or-three : (s : List ℕ) → (headerSize s ≡ 1) ⊎ (headerSize s ≡ 3)
 unfolding headerSize

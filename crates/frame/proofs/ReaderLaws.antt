@@ -137,20 +137,50 @@ given-handed first response o =
       twelve = o .twelve;
     }
 
-pub handed : (first response : List ℕ) (s : Sizes) → sizes (readFrame first response) ≡ accepted s → Handed first response s
-handed first response s e =
+-- An answer of acceptance: the frame obeys the rules, and the sizes are those of its parts.
+pub record AcceptedSizes (first response : List ℕ) (s : Sizes) : Type 0 where
+  pub obeyed : Obeys first response
+  pub parts : readFrame first response ≡ accepted (partsOf first response)
+  pub sizes : given first response ≡ s
+
+pub accepted-given : (first response : List ℕ) (s : Sizes) → sizes (readFrame first response) ≡ accepted s → AcceptedSizes first response s
+accepted-given first response s e =
     cases (eqb (readRefusal first response) 0) (λ t. yes (eqb-true _ _ t)) (λ f. absurd (no (eqb-false (readRefusal first response) 0 f)))
   where
-    yes : readRefusal first response ≡ 0 → Handed first response s
+    yes : readRefusal first response ≡ 0 → AcceptedSizes first response s
     yes z =
         let o = obeys first response z in
         let told : accepted (given first response) ≡ accepted s =
         sym (accepted-sizes first response o) ∙ ap sizes (sym (read-accepts first response z)) ∙ e in
-        let same : given first response ≡ s = cc in
-        subst (Handed first response) same (given-handed first response o)
+        record { obeyed = o; parts = read-accepts first response z; sizes = cc }
 
     no : (readRefusal first response ≡ 0 → ⊥) → ⊥
     no n =
         let f : refused (readRefusal first response) ≡ accepted s = ap sizes (sym (read-refuses first response n)) ∙ e in
         let z : _≡_ {A = ℕ} 0 1 = cc in
         omega arith
+
+pub handed : (first response : List ℕ) (s : Sizes) → sizes (readFrame first response) ≡ accepted s → Handed first response s
+handed first response s e =
+    let a = accepted-given first response s e in
+    subst (Handed first response) (a .sizes) (given-handed first response (a .obeyed))
+
+-- The sizes cut the parts out of the first run.
+pub record CutOut (first : List ℕ) (s : Sizes) (p : Parts) : Type 0 where
+  pub header : p .header ≡ take (s .header) first
+  pub body : p .body ≡ take (s .body) (drop (s .header) first)
+  pub kind : kindNumber (p .kind) ≡ s .kind
+
+pub cut-out :
+    (first response : List ℕ) (s : Sizes)
+    → sizes (readFrame first response) ≡ accepted s
+    → (p : Parts) × (readFrame first response ≡ accepted p) × CutOut first s p
+unfolding partsOf
+cut-out first response s e =
+    let a = accepted-given first response s e in
+    (partsOf first response, a .parts, subst (λ (t : Sizes). CutOut first t (partsOf first response)) (a .sizes) (record { header = refl; body = refl; kind = refl }))
+
+-- A refusal handed over is the reader's.
+pub refusal-handed : (o : Outcome Parts) (n : ℕ) → sizes o ≡ refused n → o ≡ refused n
+refusal-handed (refused m) n e = let f : m ≡ n = cc in ap refused f
+refusal-handed (accepted p) n e = absurd (let z : _≡_ {A = ℕ} 0 1 = cc in omega arith)

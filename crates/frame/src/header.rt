@@ -14,11 +14,11 @@ pub enum ResponseKind {
     Unassigned,
 }
 
-// The first byte of a run, 0 if there is none.
-fn first_byte(run: &[u8]) -> u8
-    ensures { λ r. ⌜ r ≡ getD (now (run .entry)) 0 0 ⌝ }
+// A byte of a run; 0 past its end.
+pub fn byte_at(run: &[u8], i: usize) -> u8
+    ensures { λ r. ⌜ r ≡ getD (now (run .entry)) i 0 ⌝ }
 {
-    if run.len() == 0 { 0 } else { run[0] }
+    if i < run.len() { run[i] } else { 0 }
 }
 
 pub(crate) fn message_type(b: u8) -> u8
@@ -28,10 +28,10 @@ pub(crate) fn message_type(b: u8) -> u8
 }
 
 // How many header bytes H asks for.
-pub(crate) fn header_size(run: &[u8]) -> usize
+pub fn header_size(run: &[u8]) -> usize
     ensures { λ r. ⌜ r ≡ headerSize (now (run .entry)) ⌝ }
 {
-    let b = first_byte(run);
+    let b = byte_at(run, 0);
     if (b >> 4) & 1 == 0 { 3 } else { 1 }
 }
 
@@ -63,7 +63,7 @@ pub(crate) fn response_kind(t: u8) -> ResponseKind
 pub(crate) fn kind_of(run: &[u8]) -> ResponseKind
     ensures { λ r. ⌜ r ≡ kindOf (now (run .entry)) ⌝ }
 {
-    response_kind(message_type(first_byte(run)))
+    response_kind(message_type(byte_at(run, 0)))
 }
 
 pub(crate) fn kind_number(kind: ResponseKind) -> u8

@@ -6,3 +6,4 @@ pub mod BitsLaws
 pub mod ScalingLaws
 pub mod ItemLaws
 pub mod RowsLaws
+pub mod AnswerLaws

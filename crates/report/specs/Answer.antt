@@ -1,10 +1,55 @@
--- What the report call answers.
+-- What the report call answers: document 01, "A report tests the supplement, then the frame, then 8."
 use Prim.Native.Nat.{ℕ}
+use mathlib.Core.Bool.{cond}
 use mathlib.Core.List.{List, [], _∷_, _++_}
+use lib.Dec.{eqb, ltb}
+use lib.ListN.{length}
+use Rattle.frame.specs.Frame.{Outcome, Parts, placed}
+use Rattle.frame.specs.Reader.{readFrame}
+use Rattle.catalogue.specs.Supplement.{check}
+use Rattle.catalogue.specs.Lookup.{catalogue}
 use Rattle.report.specs.declared.line.Line.{Line}
 use Rattle.report.specs.declared.message.Report.{Report}
-use Rattle.report.specs.Rows.{firstLines}
+use Rattle.report.specs.declared.answer.Reported.{Reported}
+use Rattle.report.specs.declared.answer.Reported.the-variants.{Refused, Shown}
+use Rattle.report.specs.Report.{messageOf, reportOf}
+use Rattle.report.specs.Rows.{firstLines, reportBytes}
+use Rattle.frame.specs.Frame as frame
 
 -- The lines that a report struct holds.
 abbrev pub shownLines : Report → List Line
 shownLines r = (firstLines (r .count) (r .lines) ++ r .remainder ∷ []) ++ r .response ∷ []
+
+-- "A refusal returns its number, and for 10 to 15 a place", 0 for the others; or what is shown.
+pub data Answer (A : Type 0) : Type 0 where
+  refused : ℕ → ℕ → Answer A
+  shown : A → Answer A
+
+-- Refusal 8: lent output shorter than the rows.
+unfoldable pub fitted : ℕ → List ℕ → Answer (List ℕ)
+fitted room rows = cond (ltb room (length rows)) (refused 8 0) (shown rows)
+
+-- The rows of a frame that was read.
+unfoldable pub answerOf : List ℕ → ℕ → Outcome Parts → Answer (List ℕ)
+answerOf s room (frame.refused n) = refused n 0
+answerOf s room (frame.accepted p) = fitted room (reportBytes (reportOf (catalogue s) (messageOf p)))
+
+-- The supplement, then the frame, then 8, for `room` bytes of lent output.
+unfoldable pub reportAnswer : List ℕ → List ℕ → List ℕ → ℕ → Answer (List ℕ)
+reportAnswer s first response room =
+    cond (eqb (check s .refusal) 0) (answerOf s room (readFrame first response)) (refused (check s .refusal) (check s .place))
+
+-- Lent output afterwards: the rows at its start and all else as it was; refused, as it was.
+abbrev pub outAfter : Answer (List ℕ) → List ℕ → List ℕ
+outAfter (refused n place) out = out
+outAfter (shown rows) out = placed out 0 rows
+
+-- What is handed over of the rows: their length.
+abbrev pub sized : Answer (List ℕ) → Answer ℕ
+sized (refused n place) = refused n place
+sized (shown rows) = shown (length rows)
+
+-- The number and the values of each case of the call's enum.
+abbrev pub reportedOf : Reported → Answer ℕ
+reportedOf (Refused n place) = refused n place
+reportedOf (Shown size) = shown size

@@ -21,16 +21,16 @@ pub record Message : Type 0 where
   pub body : List ℕ
   pub kind : ℕ
 
--- "the frame's first byte (priority bits cleared if H = 0), the target (0 if H = 1)"
-unfoldable pub messageOf : Parts → Message
-messageOf p =
-    let b : ℕ = getD (p .header) 0 0 in
-    record {
-      first = cond (eqb (bitH b) 0) (b % 32) b;
-      target = cond (eqb (bitH b) 0) (getD (p .header) 1 0) 0;
-      body = p .body;
-      kind = kindNumber (p .kind);
-    }
+-- "the frame's first byte (priority bits cleared if H = 0)"
+unfoldable pub keyByte : List ℕ → ℕ
+keyByte header = let b : ℕ = getD header 0 0 in cond (eqb (bitH b) 0) (b % 32) b
+
+-- "the target (0 if H = 1)"
+unfoldable pub keyTarget : List ℕ → ℕ
+keyTarget header = cond (eqb (bitH (getD header 0 0)) 0) (getD header 1 0) 0
+
+abbrev pub messageOf : Parts → Message
+messageOf p = record { first = keyByte (p .header); target = keyTarget (p .header); body = p .body; kind = kindNumber (p .kind) }
 
 -- "the first data byte as selector, absent if there are no data"
 unfoldable pub layoutSought : Catalogue → Message → Option (List ℕ)

@@ -1,4 +1,5 @@
 // Reports: what a frame shows under the SAE tables and a supplement.
+pub mod answer;
 pub mod bits;
 pub mod items;
 pub mod line;

@@ -6,18 +6,18 @@ use borrow.Author.Needs.{needs}
 use Rattle.frame.proofs.header.header_size.Statement.{statement}
 use Rattle.frame.proofs.header.header_size.Tie as tie
 
-first-byte-requires : tie.Need-first-byte-requires
-first-byte-requires c κs = search needs
+byte-at-requires : tie.Need-byte-at-requires
+byte-at-requires c κs = search needs
 
 returns : tie.Need-returns
 returns c =
     sym (three (c .before .before .before .args .run .now)
-    (ap bitH (sym (c .before .first-byte .ensures)) ∙ sym (masked-h (c .before .first-byte .result)) ∙ c .if1 .taken))
+    (ap bitH (sym (c .before .byte-at .ensures)) ∙ sym (masked-h (c .before .byte-at .result)) ∙ c .if1 .taken))
 
 returns-2 : tie.Need-returns-2
 returns-2 c =
     sym (one (c .before .before .before .args .run .now)
-    (λ e. c .if1 .left (masked-h (c .before .first-byte .result) ∙ ap bitH (c .before .first-byte .ensures) ∙ e)))
+    (λ e. c .if1 .left (masked-h (c .before .byte-at .result) ∙ ap bitH (c .before .byte-at .ensures) ∙ e)))
 
 pub header-size-spec : {M : Type 1} → statement M
-header-size-spec = tie.close (tie.spec first-byte-requires returns returns-2)
+header-size-spec = tie.close (tie.spec byte-at-requires returns returns-2)

@@ -5,8 +5,8 @@ use borrow.Author.Needs.{needs}
 use Rattle.frame.proofs.header.kind_of.Statement.{statement}
 use Rattle.frame.proofs.header.kind_of.Tie as tie
 
-first-byte-requires : tie.Need-first-byte-requires
-first-byte-requires c κs = search needs
+byte-at-requires : tie.Need-byte-at-requires
+byte-at-requires c κs = search needs
 
 message-type-requires : tie.Need-message-type-requires
 message-type-requires c κs = search needs
@@ -18,8 +18,8 @@ returns : tie.Need-returns
 unfolding kindOf
 returns c =
     c .response-kind .ensures
-    ∙ ap responseKind (c .before .message-type .ensures ∙ ap messageType (c .before .before .first-byte .ensures))
+    ∙ ap responseKind (c .before .message-type .ensures ∙ ap messageType (c .before .before .byte-at .ensures))
 
 pub kind-of-spec : {M : Type 1} → statement M
 kind-of-spec =
-    tie.close (tie.spec first-byte-requires message-type-requires response-kind-requires returns)
+    tie.close (tie.spec byte-at-requires message-type-requires response-kind-requires returns)

@@ -1,0 +1,69 @@
+-- The rows put are those of the report of the parts' message, and their size is known before they are put.
+use mathlib.Core.Path.{_≡_, sym, ap, _∙_}
+use mathlib.Core.List.{List, [], _∷_, _++_}
+use Prim.Native.Nat.{ℕ, _+_, _≤_}
+use native.Mathlib.Omega.{arith}
+use lib.ListN.{length}
+use Rattle.frame.specs.Frame.{placed}
+use Rattle.catalogue.specs.Lookup.{catalogue}
+use Rattle.report.specs.Report.{keyByte, keyTarget, Message, reportOf, linesOf}
+use Rattle.report.specs.Rows.{rowsOf, reportBytes}
+use Rattle.report.specs.Answer.{shownLines, shown}
+use Rattle.report.proofs.AnswerLaws.{rows-told, rows-length, too-long, fits}
+use borrow.Author.Needs.{needs}
+use Rattle.report.proofs.answer.parts_report.Statement.{statement}
+use Rattle.report.proofs.answer.parts_report.Tie as tie
+
+key-byte-requires : tie.Need-key-byte-requires
+key-byte-requires c κs = search needs
+
+key-target-requires : tie.Need-key-target-requires
+key-target-requires c κs = search needs
+
+message-report-requires : tie.Need-message-report-requires
+message-report-requires c κs = search needs
+
+report-size-requires : tie.Need-report-size-requires
+report-size-requires c κs = search needs
+
+-- the rows that are asked for
+abbrev asked : tie.After-message-report → List ℕ
+asked c =
+    reportBytes (reportOf (catalogue (c .before .before .before .before .before .before .before .args .s .now)) (record { first = keyByte (c .before .before .before .before .before .before .before .args .header .now); target = keyTarget (c .before .before .before .before .before .before .before .args .header .now); body = c .before .before .before .before .before .before .before .args .body .now; kind = c .before .before .before .before .before .before .before .args .kind }))
+
+told : (c : tie.After-message-report) → rowsOf (shownLines (c .message-report .result)) ++ 11 ∷ c .message-report .result .verdict ∷ [] ≡ asked c
+told c =
+    rows-told (c .message-report .result) _
+    (c .message-report .ensures .0
+    ∙ (λ i. linesOf (reportOf (catalogue (c .before .before .before .before .before .before .before .args .s .now)) (record { first = c .before .before .key-byte .ensures i; target = c .before .key-target .ensures i; body = c .before .before .before .before .before .before .before .args .body .now; kind = c .before .before .before .before .before .before .before .args .kind }))))
+    (c .message-report .ensures .1 .0)
+
+size : (c : tie.After-report-size) → c .report-size .result ≡ length (asked (c .before))
+size c = c .report-size .ensures ∙ sym (rows-length (rowsOf (shownLines (c .before .message-report .result))) (c .before .message-report .result .verdict)) ∙ ap length (told (c .before))
+
+returns : tie.Need-returns
+returns c = too-long (asked (c .before .before)) (c .before .before .before .before .before .before .before .before .before .args .out .now) (omega (arith, size (c .before), c .if1 .taken))
+
+put-report-requires : tie.Need-put-report-requires
+put-report-requires c κs = search needs
+
+same-length : tie.Need-same-length
+same-length c = search needs
+
+returns-2 : tie.Need-returns-2
+returns-2 c =
+    let h = fits (asked (c .before .before .before .before .before .before)) (c .before .before .before .before .before .before .before .before .before .before .before .before .before .args .out .now) (omega (arith, size (c .before .before .before .before .before), c .before .before .before .before .if1 .left)) in
+    (ap shown (size (c .before .before .before .before .before)) ∙ h .0, c .before .before .put-report .ensures ∙ ap (placed (c .before .before .before .before .before .before .before .before .before .before .before .before .before .args .out .now) 0) (told (c .before .before .before .before .before .before)) ∙ h .1)
+
+pub parts-report-spec : {M : Type 1} → statement M
+parts-report-spec =
+    tie.close
+    (tie.spec
+    key-byte-requires
+    key-target-requires
+    message-report-requires
+    report-size-requires
+    returns
+    put-report-requires
+    same-length
+    returns-2)
