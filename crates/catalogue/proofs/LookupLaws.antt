@@ -7,7 +7,7 @@ use Prim.Native.Nat.{ℕ, min, _≤_, _<_}
 use native.Mathlib.Omega.{arith}
 use borrow.Author.Tests.{leb-true, leb-false}
 use lib.Dec.{leb}
-use lib.ListN.{length, take, getD, replicate}
+use lib.ListN.{length, take, getD, replicate, length-take}
 use lib.Seq.{take-all, getD-take}
 use Rattle.frame.proofs.Bytes.{cases}
 use Rattle.sae.specs.declared.sae.PrnRow.{PrnRow}
@@ -91,3 +91,11 @@ slot-keyed s e f w n =
     (λ r h.
     let start = own-record s e (slotKey f w n) r (omega arith) h .0 in
     (sym (getD-take 5 r 1 0 (omega arith)) ∙ ap (λ (t : List ℕ). getD t 1 0) start, sym (getD-take 5 r 2 0 (omega arith)) ∙ ap (λ (t : List ℕ). getD t 2 0) start))
+
+-- A layout has at most sixteen PRNs, whatever the supplement.
+pub layout-sixteen : (s : List ℕ) (a b x y : ℕ) (prns : List ℕ) → catalogue s .layout a b x y ≡ some prns → length prns ≤ 16
+unfolding catalogue layoutRow
+layout-sixteen s a b x y =
+    either (λ (prns : List ℕ). length prns ≤ 16) layoutRow none (recordWith (layoutKey a b x y) s)
+    (λ prns h. absurd (let z : _≡_ {A = ℕ} 0 1 = cc in omega arith))
+    (λ r h. simp length-take (omega (arith, length-numbers 16 6 r)))

@@ -32,8 +32,8 @@ pub rows-told : (r : struct.Report) (q : Report) → shownLines r ≡ linesOf q 
 unfolding reportBytes verdict
 rows-told r q e v = λ i. rowsOf (e i) ++ 11 ∷ (v ∙ ap verdictOf e) i ∷ []
 
-pub rows-length : (ls : List ℕ) (v : ℕ) → length (ls ++ 11 ∷ v ∷ []) ≡ length ls + 2
-rows-length ls v = length-append ls (11 ∷ v ∷ [])
+pub verdict-length : (ls : List ℕ) (v : ℕ) → length (ls ++ 11 ∷ v ∷ []) ≡ length ls + 2
+verdict-length ls v = length-append ls (11 ∷ v ∷ [])
 
 -- Rows that do not fit lent output, and rows that do.
 pub too-long : (rows out : List ℕ) → length out < length rows → (refused 8 0 ≡ sized (fitted (length out) rows)) × (out ≡ outAfter (fitted (length out) rows) out)

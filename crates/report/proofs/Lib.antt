@@ -7,3 +7,4 @@ pub mod ScalingLaws
 pub mod ItemLaws
 pub mod RowsLaws
 pub mod AnswerLaws
+pub mod SizeLaws

@@ -9,7 +9,7 @@ use Rattle.catalogue.specs.Lookup.{catalogue}
 use Rattle.report.specs.Report.{keyByte, keyTarget, Message, reportOf, linesOf}
 use Rattle.report.specs.Rows.{rowsOf, reportBytes}
 use Rattle.report.specs.Answer.{shownLines, shown}
-use Rattle.report.proofs.AnswerLaws.{rows-told, rows-length, too-long, fits}
+use Rattle.report.proofs.AnswerLaws.{rows-told, verdict-length, too-long, fits}
 use borrow.Author.Needs.{needs}
 use Rattle.report.proofs.answer.parts_report.Statement.{statement}
 use Rattle.report.proofs.answer.parts_report.Tie as tie
@@ -39,7 +39,7 @@ told c =
     (c .message-report .ensures .1 .0)
 
 size : (c : tie.After-report-size) → c .report-size .result ≡ length (asked (c .before))
-size c = c .report-size .ensures ∙ sym (rows-length (rowsOf (shownLines (c .before .message-report .result))) (c .before .message-report .result .verdict)) ∙ ap length (told (c .before))
+size c = c .report-size .ensures ∙ sym (verdict-length (rowsOf (shownLines (c .before .message-report .result))) (c .before .message-report .result .verdict)) ∙ ap length (told (c .before))
 
 returns : tie.Need-returns
 returns c = too-long (asked (c .before .before)) (c .before .before .before .before .before .before .before .before .before .args .out .now) (omega (arith, size (c .before), c .if1 .taken))
