@@ -4,6 +4,8 @@ use Rattle.frame.specs.Frame.{Outcome, refused, accepted}
 use Rattle.frame.specs.Reader.{Sizes}
 use Rattle.frame.specs.Writer.{Runs}
 use Rattle.catalogue.specs.declared.supplement.Checked.{Checked}
+use Rattle.report.specs.Answer.{Answer}
+use Rattle.report.specs.Answer as answer
 
 -- Byte 1 the header's length, byte 2 that of the data, byte 3 the response kind, byte 4 the response's length without check byte.
 abbrev pub readWord : Outcome Sizes → ℕ
@@ -18,3 +20,8 @@ writeWord (accepted r) = r .first * 2 ^ 8 + r .response * 2 ^ 16
 -- From byte 1 on the place of the record with the fault.
 abbrev pub checkWord : Checked → ℕ
 checkWord c = c .refusal + c .place * 2 ^ 8
+
+-- From byte 1 on the length of the rows, or the place of the record with the fault.
+abbrev pub reportWord : Answer ℕ → ℕ
+reportWord (answer.refused n place) = n + place * 2 ^ 8
+reportWord (answer.shown size) = size * 2 ^ 8

@@ -4,12 +4,16 @@ use frame::reader::Reading;
 use frame::reader::read_frame;
 use frame::writer::Writing;
 use frame::writer::write_frame;
+use report::answer::Reported;
+use report::answer::report;
 ghost use mathlib.Core.Path.{_≡_};
 ghost use lib.ListN.{length};
 ghost use Rattle.frame.specs.Reader.{readFrame, sizes};
 ghost use Rattle.frame.specs.Writer.{writeFrame, runs, outAfter};
 ghost use Rattle.catalogue.specs.Supplement.{check};
-ghost use Rattle.c_api.specs.Words.{readWord, writeWord, checkWord};
+ghost use Rattle.report.specs.Answer.{reportAnswer, sized};
+ghost use Rattle.report.specs.Answer as answer;
+ghost use Rattle.c_api.specs.Words.{readWord, writeWord, checkWord, reportWord};
 
 // Reads a frame given as its two runs.
 #[no_mangle]
@@ -58,4 +62,22 @@ pub extern "C" fn rakhubole_supplement_check(supplement: &[u8]) -> u64
 {
     let checked = check_supplement(supplement);
     checked.refusal as u64 + checked.place as u64 * 0x100
+}
+
+// Reports a frame under a supplement: the rows at the start of `out`.
+#[no_mangle]
+pub extern "C" fn rakhubole_j1850_report(
+    supplement: &[u8],
+    first: &[u8],
+    response: &[u8],
+    out: &mut [u8],
+) -> u64
+    ensures told { λ r. ⌜ r ≡ reportWord (sized (reportAnswer (now (supplement .entry)) (now (first .entry)) (now (response .entry)) (length (now (out .entry))))) ⌝ }
+    ensures left { λ r. ⌜ now (out .exit) ≡ answer.outAfter (reportAnswer (now (supplement .entry)) (now (first .entry)) (now (response .entry)) (length (now (out .entry)))) (now (out .entry)) ⌝ }
+{
+    let reported = report(supplement, first, response, out);
+    match reported {
+        Reported::Refused(n, place) => n as u64 + place as u64 * 0x100,
+        Reported::Shown(size) => size as u64 * 0x100,
+    }
 }

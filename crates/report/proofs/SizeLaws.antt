@@ -71,7 +71,7 @@ rows-most s m =
     )
 
 -- What is handed over is small: a place within a supplement, or the length of such rows.
-abbrev pub Small : Answer (List ℕ) → Type 0
+abbrev Small : Answer (List ℕ) → Type 0
 Small (refused n place) = place ≤ 16384
 Small (shown rows) = length rows ≤ 150
 
@@ -84,15 +84,22 @@ unfolding answerOf
 read-small s room (frame.refused n) = omega arith
 read-small s room (frame.accepted p) = fitted-small room _ (rows-most s (messageOf p))
 
-pub answer-small : (s first response : List ℕ) (room : ℕ) → Small (reportAnswer s first response room)
+answer-small : (s first response : List ℕ) (room : ℕ) → Small (reportAnswer s first response room)
 unfolding reportAnswer
 answer-small s first response room =
     cases (eqb (check s .refusal) 0) (λ t. rw t (read-small s room (readFrame first response))) (λ f. rw f (place-small s))
 
-pub place-within : (a : Answer (List ℕ)) (n place : ℕ) → Small a → refused n place ≡ sized a → place ≤ 16384
-place-within (refused m q) n place h e = let same : place ≡ q = cc in omega arith
-place-within (shown rows) n place h e = absurd (let z : _≡_ {A = ℕ} 0 1 = cc in omega arith)
+place-of : (a : Answer (List ℕ)) (n place : ℕ) → Small a → refused n place ≡ sized a → place ≤ 16384
+place-of (refused m q) n place h e = let same : place ≡ q = cc in omega arith
+place-of (shown rows) n place h e = absurd (let z : _≡_ {A = ℕ} 0 1 = cc in omega arith)
 
-pub size-within : (a : Answer (List ℕ)) (size : ℕ) → Small a → shown size ≡ sized a → size ≤ 150
-size-within (refused m q) size h e = absurd (let z : _≡_ {A = ℕ} 0 1 = cc in omega arith)
-size-within (shown rows) size h e = let same : size ≡ length rows = cc in omega arith
+size-of : (a : Answer (List ℕ)) (size : ℕ) → Small a → shown size ≡ sized a → size ≤ 150
+size-of (refused m q) size h e = absurd (let z : _≡_ {A = ℕ} 0 1 = cc in omega arith)
+size-of (shown rows) size h e = let same : size ≡ length rows = cc in omega arith
+
+module _ (s first response : List ℕ) (room : ℕ) where
+  pub place-within : (n place : ℕ) → refused n place ≡ sized (reportAnswer s first response room) → place ≤ 16384
+  place-within n place e = place-of (reportAnswer s first response room) n place (answer-small s first response room) e
+
+  pub size-within : (size : ℕ) → shown size ≡ sized (reportAnswer s first response room) → size ≤ 150
+  size-within size e = size-of (reportAnswer s first response room) size (answer-small s first response room) e
