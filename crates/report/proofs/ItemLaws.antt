@@ -19,7 +19,7 @@ use Rattle.report.specs.declared.items.Place.{Place}
 use Rattle.report.specs.declared.items.Place.the-variants.{Bit, Lost, Past}
 use Rattle.report.specs.declared.line.Held.{Held}
 use Rattle.report.specs.declared.line.Line.{Line}
-use Rattle.report.specs.declared.line.Line.the-variants.{Short, Unknown, Left}
+use Rattle.report.specs.declared.line.Line.the-variants.{State, Bits, Text, Digits, Invalid, Short, Unknown, Left}
 use Rattle.report.specs.Scaling.{formLine, numberLine, withinLimits, digitsPass, printable, decimal}
 use Rattle.sae.specs.Rows.{SNM, SED, BMP, ASC}
 use Rattle.report.proofs.ScalingLaws.{number-not-nan}
@@ -135,30 +135,39 @@ pub sought-present : (c : Catalogue) (m : Message) → (length (m .body) ≡ 0 �
 unfolding layoutSought
 sought-present c m e = rw (ne-eqb (length (m .body)) 0 e)
 
+-- What holds of each line that a form can give holds of the one that it gives.
+pub form-among :
+    (P : Line → Type 0) (form width : ℕ) (slot : SlotRow) (raw : ℕ)
+    → P (numberLine slot raw)
+    → P (State raw)
+    → P (Bits raw)
+    → P (Text raw)
+    → P (Digits raw)
+    → P (Invalid raw)
+    → P (Unknown 4)
+    → P (Unknown 5)
+    → P (Unknown 6)
+    → P (formLine form width slot raw)
+unfolding formLine
+form-among P form width slot raw number state bits text digits invalid u4 u5 u6 =
+    of (leb 7 form) u4
+    (of (ltb 32 width) u6
+    (of (leb form SNM) (of (withinLimits slot raw) number invalid)
+    (of (eqb form SED) (of (withinLimits slot raw) state u5)
+    (of (eqb form BMP) bits
+    (of (eqb form ASC)
+    (of (eqb (width % 8) 0) (of (digitsPass printable 8 (width / 8) raw) text invalid) u4)
+    (of (eqb (width % 4) 0) (of (digitsPass decimal 4 (width / 4) raw) digits invalid) u4))))))
+  where
+    of : (t : Bool) {l m : Line} → P l → P m → P (cond t l m)
+    of true a b = a
+    of false a b = b
+
 -- The line of a form holds no NaN if the divisor is not 0.
 pub form-holds : (form width : ℕ) (slot : SlotRow) (raw : ℕ) → 1 ≤ slot .divisor → slot .divisor < 2 ^ 16 → holdsNumber (formLine form width slot raw)
-unfolding formLine numberLine
+unfolding numberLine
 form-holds form width slot raw h l =
-    cases (leb 7 form) (λ t. rw t tt)
-    (λ f1.
-    cases (ltb 32 width) (λ t. rw (f1, t) tt)
-    (λ f2.
-    cases (leb form SNM)
-    (λ t3. cases (withinLimits slot raw) (λ t. rw (f1, f2, t3, t) (number-not-nan slot raw h l)) (λ t. rw (f1, f2, t3, t) tt))
-    (λ f3.
-    cases (eqb form SED) (λ t4. cases (withinLimits slot raw) (λ t. rw (f1, f2, f3, t4, t) tt) (λ t. rw (f1, f2, f3, t4, t) tt))
-    (λ f4.
-    cases (eqb form BMP) (λ t. rw (f1, f2, f3, f4, t) tt)
-    (λ f5.
-    cases (eqb form ASC)
-    (λ t6.
-    cases (eqb (width % 8) 0)
-    (λ w. cases (digitsPass printable 8 (width / 8) raw) (λ t. rw (f1, f2, f3, f4, f5, t6, w, t) tt) (λ t. rw (f1, f2, f3, f4, f5, t6, w, t) tt))
-    (λ w. rw (f1, f2, f3, f4, f5, t6, w) tt))
-    (λ f6.
-    cases (eqb (width % 4) 0)
-    (λ w. cases (digitsPass decimal 4 (width / 4) raw) (λ t. rw (f1, f2, f3, f4, f5, f6, w, t) tt) (λ t. rw (f1, f2, f3, f4, f5, f6, w, t) tt))
-    (λ w. rw (f1, f2, f3, f4, f5, f6, w) tt)))))))
+    form-among holdsNumber form width slot raw (number-not-nan slot raw h l) tt tt tt tt tt tt tt tt
 
 pub after-inside : (c : Catalogue) (items : List ℕ) (p : Place) (prns : List ℕ) → Inside items p → Inside items (placeAfter c items p prns)
 unfolding placeAfter

@@ -8,3 +8,4 @@ pub mod ItemLaws
 pub mod RowsLaws
 pub mod AnswerLaws
 pub mod SizeLaws
+pub mod LeftLaws

@@ -1,17 +1,17 @@
--- What lines that are the same or Unknown do to the verdict.
-use mathlib.Core.Path.{_≡_, refl, sym, ap, _∙_, subst}
-use mathlib.Core.Logic.{_⊎_, inl, inr, ⊎-elim}
+-- What lines that are the same or Unknown do to the verdict, and the verdict of every report from the lines that it shows.
+use mathlib.Core.Path.{_≡_, refl, sym, ap, _∙_}
+use mathlib.Core.Logic.{_↔_, _⊎_, inl, inr, ⊎-elim}
 use mathlib.Core.Bool.{Bool, true, false, cond, _||_, not, true≢false}
-use mathlib.Core.List.{List, [], _∷_, _++_, List·Memᴰ, List·Memᴰ·head, List·Memᴰ·tail, List·Memᴰ·cases-cons, List·Memᴰ·append-cases, List·Memᴰ·not-nil, Memᴰ·append-left, Memᴰ·append-right}
+use mathlib.Core.List.{List, [], _∷_, _++_, List·Memᴰ, List·Memᴰ·head, List·Memᴰ·tail, List·Memᴰ·cases-cons, List·Memᴰ·not-nil}
 use Prim.Native.Nat.{ℕ}
 use native.Mathlib.Omega.{arith}
-use lib.Dec.{eqb}
+use borrow.Author.Tests.{eq-eqb, ne-eqb}
 use Rattle.frame.proofs.Bytes.{cases}
 use Rattle.report.specs.declared.line.Line.{Line}
 use Rattle.report.specs.declared.line.Line.the-variants.{Number, State, Bits, Text, Digits, Invalid, Short, Unknown, Left, Answered}
 use Rattle.report.specs.declared.verdict.Marks.{Marks}
-use Rattle.report.specs.Report.{isFlagged, isUnknown, any, verdictOf}
-use Rattle.report.proofs.KeptLaws.{Kept, AllKept}
+use Rattle.report.specs.Report.{Report, linesOf, isFlagged, isUnknown, any, verdictOf, verdict}
+use Rattle.report.proofs.KeptLaws.{AllKept}
 
 -- A test that holds for a line of the list, and the line that it holds for.
 pub any-is : (p : Line → Bool) (ls : List Line) → any p ls ≡ true → (l : Line) × List·Memᴰ l ls × (p l ≡ true)
@@ -130,3 +130,80 @@ module _ (ls : List Line) (l m : Line) (a b d : Marks) where
 pub verdict-is : (ls : List Line) (f u : Bool) → f ≡ any isFlagged ls → u ≡ any isUnknown ls → cond f 2 (cond u 3 1) ≡ verdictOf ls
 unfolding verdictOf
 verdict-is ls f u p q = λ i. cond (p i) 2 (cond (q i) 3 1)
+
+-- "a line is Invalid or Short or Left is not 0"; "a line is Unknown"
+abbrev pub ShowsFlagged : List Line → Type 0
+ShowsFlagged ls = ((n : ℕ) × List·Memᴰ (Invalid n) ls) ⊎ (List·Memᴰ Short ls ⊎ ((n : ℕ) × List·Memᴰ (Left n) ls × (n ≡ 0 → ⊥)))
+
+abbrev pub ShowsUnknown : List Line → Type 0
+ShowsUnknown ls = (n : ℕ) × List·Memᴰ (Unknown n) ls
+
+-- The two tests say just that.
+flagged-shown : (ls : List Line) (l : Line) → List·Memᴰ l ls → isFlagged l ≡ true → ShowsFlagged ls
+flagged-shown ls (Number x) m e = absurd (true≢false (sym e))
+flagged-shown ls (State n) m e = absurd (true≢false (sym e))
+flagged-shown ls (Bits n) m e = absurd (true≢false (sym e))
+flagged-shown ls (Text n) m e = absurd (true≢false (sym e))
+flagged-shown ls (Digits n) m e = absurd (true≢false (sym e))
+flagged-shown ls (Invalid n) m e = inl (n, m)
+flagged-shown ls Short m e = inr (inl m)
+flagged-shown ls (Unknown n) m e = absurd (true≢false (sym e))
+flagged-shown ls (Left n) m e = inr (inr (n, m, λ z. true≢false (sym e ∙ ap not (eq-eqb n 0 z))))
+flagged-shown ls (Answered n) m e = absurd (true≢false (sym e))
+
+any-flagged : (ls : List Line) → ShowsFlagged ls → any isFlagged ls ≡ true
+any-flagged ls (inl s) = any-of isFlagged ls (Invalid (s .0)) (s .1) refl
+any-flagged ls (inr (inl m)) = any-of isFlagged ls Short m refl
+any-flagged ls (inr (inr s)) = any-of isFlagged ls (Left (s .0)) (s .1) (ap not (ne-eqb (s .0) 0 (s .2)))
+
+unknown-shown : (ls : List Line) (l : Line) → List·Memᴰ l ls → isUnknown l ≡ true → ShowsUnknown ls
+unknown-shown ls (Number x) m e = absurd (true≢false (sym e))
+unknown-shown ls (State n) m e = absurd (true≢false (sym e))
+unknown-shown ls (Bits n) m e = absurd (true≢false (sym e))
+unknown-shown ls (Text n) m e = absurd (true≢false (sym e))
+unknown-shown ls (Digits n) m e = absurd (true≢false (sym e))
+unknown-shown ls (Invalid n) m e = absurd (true≢false (sym e))
+unknown-shown ls Short m e = absurd (true≢false (sym e))
+unknown-shown ls (Unknown n) m e = (n, m)
+unknown-shown ls (Left n) m e = absurd (true≢false (sym e))
+unknown-shown ls (Answered n) m e = absurd (true≢false (sym e))
+
+-- A number by two tests, from what each test says.
+by-tests :
+    (f u : Bool) {F U : Type 0} (p : (f ≡ true) ↔ F) (q : (u ≡ true) ↔ U)
+    → let v : ℕ = cond f 2 (cond u 3 1) in
+    ((v ≡ 2) ↔ F) × ((v ≡ 3) ↔ ((F → ⊥) × U)) × ((v ≡ 1) ↔ ((F → ⊥) × (U → ⊥)))
+by-tests true u p q = (
+  (λ e. p .0 refl, λ x. refl),
+  (λ e. absurd (omega arith), λ x. absurd (x .0 (p .0 refl))),
+  (λ e. absurd (omega arith), λ x. absurd (x .0 (p .0 refl))),
+)
+by-tests false true p q = (
+  (λ e. absurd (omega arith), λ x. absurd (true≢false (sym (p .1 x)))),
+  (λ e. (λ x. true≢false (sym (p .1 x)), q .0 refl), λ x. refl),
+  (λ e. absurd (omega arith), λ x. absurd (x .1 (q .0 refl))),
+)
+by-tests false false p q = (
+  (λ e. absurd (omega arith), λ x. absurd (true≢false (sym (p .1 x)))),
+  (λ e. absurd (omega arith), λ x. absurd (true≢false (sym (q .1 (x .1))))),
+  (λ e. (λ x. true≢false (sym (p .1 x)), λ x. true≢false (sym (q .1 x))), λ x. refl),
+)
+
+-- The verdict of every report, from the lines that it shows.
+pub record Judged (r : Report) : Type 0 where
+  -- "Flagged (2) if a line is Invalid or Short or Left is not 0;
+  pub flagged : (verdict r ≡ 2) ↔ ShowsFlagged (linesOf r)
+  -- otherwise Unknown (3) if a line is Unknown;
+  pub unknown : (verdict r ≡ 3) ↔ ((ShowsFlagged (linesOf r) → ⊥) × ShowsUnknown (linesOf r))
+  -- otherwise Clear (1)"
+  pub clear : (verdict r ≡ 1) ↔ ((ShowsFlagged (linesOf r) → ⊥) × (ShowsUnknown (linesOf r) → ⊥))
+
+pub judged : (r : Report) → Judged r
+unfolding verdict verdictOf
+judged r =
+    let ls : List Line = linesOf r in
+    let told =
+    by-tests (any isFlagged ls) (any isUnknown ls)
+    (λ e. let s = any-is isFlagged ls e in flagged-shown ls (s .0) (s .1) (s .2), any-flagged ls)
+    (λ e. let s = any-is isUnknown ls e in unknown-shown ls (s .0) (s .1) (s .2), λ s. any-of isUnknown ls (Unknown (s .0)) (s .1) refl) in
+    record { flagged = told .0; unknown = told .1; clear = told .2 }

@@ -5,3 +5,4 @@ pub mod Report
 pub mod Rows
 pub mod Demand
 pub mod Answer
+pub mod Left
