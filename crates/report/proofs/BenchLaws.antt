@@ -1,0 +1,18 @@
+-- P1 to P13 of document 01: one computed test over the table. The cases ask what the definitions of the layers below compute, so these are opened here.
+use mathlib.Core.Path.{_≡_, refl}
+use mathlib.Core.List.{map}
+use lib.Ieee.{ofInt, div}
+use Rattle.frame.specs.Header.{headerSize}
+use Rattle.frame.specs.Frame.{firstBroken}
+use Rattle.frame.specs.Reader.{readRules, readRefusal}
+use Rattle.sae.specs.Rows.{inOrder}
+use Rattle.sae.specs.Tables.{slotRows}
+use Rattle.sae.specs.Search.{firstWhere}
+use Rattle.sae.specs.Sae.{saeSlot}
+use Rattle.report.specs.Scaling.{signed, pattern, rawNumber, above, numberLine, withinLimits, formLine}
+use Rattle.report.specs.BenchCases.{benchCases, lineBy, answered, expected}
+
+-- In every case of the table the definitions answer what is expected.
+pub bench-cases-hold : map answered benchCases ≡ map expected benchCases
+unfolding benchCases answered expected lineBy formLine withinLimits inOrder pattern numberLine above rawNumber signed ofInt div saeSlot firstWhere slotRows readRefusal readRules firstBroken headerSize
+bench-cases-hold = refl

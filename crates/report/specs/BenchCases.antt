@@ -1,0 +1,64 @@
+-- P1 to P13 of document 01, "Bench cases", in its order: one table, read beside the paper.
+use Prim.Native.Nat.{ℕ}
+use mathlib.Core.Logic.{_⊎_, inl, inr}
+use mathlib.Core.List.{List, [], _∷_}
+use mathlib.Core.Option.{Option, none, some}
+use lib.IntN.{ℤ, pos, negℤ}
+use lib.Ieee.{binary64, ofInt}
+use Rattle.frame.specs.Reader.{readRefusal}
+use Rattle.sae.specs.declared.sae.SlotRow.{SlotRow}
+use Rattle.sae.specs.Rows.{UNM, SNM, slot, neg}
+use Rattle.sae.specs.Sae.{saeSlot}
+use Rattle.report.specs.declared.line.Line.{Line}
+use Rattle.report.specs.declared.line.Line.the-variants.{Number, Invalid, Unknown}
+use Rattle.report.specs.Scaling.{formLine}
+
+-- An item: its SLOT, its raw number and the line expected. A frame: its two runs and the refusal expected.
+pub data Case : Type 0 where
+  item : Option SlotRow → ℕ → Line → Case
+  frame : List ℕ → List ℕ → ℕ → Case
+
+-- The double of a whole number.
+abbrev pub number : ℤ → Line
+number z = Number (ofInt binary64 z)
+
+-- P9 and P10: "SNM width 8, multiplier and divisor 1, offset 0, limits -128 to 127".
+abbrev pub signedByte : SlotRow
+signedByte = slot SNM 8 1 1 1 0 (neg 128) 127
+
+unfoldable pub benchCases : List Case
+benchCases =
+    -- P1: UNM-08-77 raw 150: 100. P2: raw 151: Invalid.
+    item (saeSlot UNM 8 77) 150 (number (pos 100))
+    ∷ item (saeSlot UNM 8 77) 151 (Invalid 151)
+    -- P3: UNM-08-82 raw 240: 90. P4: raw 241: Invalid.
+    ∷ item (saeSlot UNM 8 82) 240 (number (pos 90))
+    ∷ item (saeSlot UNM 8 82) 241 (Invalid 241)
+    -- P5: UNM-08-92 raw 0: -100. P6: raw 128: 0.
+    ∷ item (saeSlot UNM 8 92) 0 (number (negℤ (pos 100)))
+    ∷ item (saeSlot UNM 8 92) 128 (number (pos 0))
+    -- P7: UNM-16-3 raw 0: -70. P8: UNM-08-102 raw 39: -1.
+    ∷ item (saeSlot UNM 16 3) 0 (number (negℤ (pos 70)))
+    ∷ item (saeSlot UNM 8 102) 39 (number (negℤ (pos 1)))
+    -- P9: raw 80h is -128. P10: raw FFh is -1.
+    ∷ item (some signedByte) 0x80 (number (negℤ (pos 128)))
+    ∷ item (some signedByte) 0xFF (number (negℤ (pos 1)))
+    -- P11: empty frame: 2. P12: H = 0, three bytes: 2. P13: thirteen bytes: 1.
+    ∷ frame [] [] 2
+    ∷ frame (0x48 ∷ 0x6B ∷ 0x10 ∷ []) [] 2
+    ∷ frame (0x48 ∷ 0x6B ∷ 0x10 ∷ 0x41 ∷ 1 ∷ 2 ∷ 3 ∷ 4 ∷ 5 ∷ 6 ∷ 7 ∷ 8 ∷ 9 ∷ []) [] 1
+    ∷ []
+
+-- The line of a raw number by its SLOT; "no SLOT of that form, width and number, Unknown 3".
+unfoldable pub lineBy : Option SlotRow → ℕ → Line
+lineBy none raw = Unknown 3
+lineBy (some s) raw = formLine (s .form) (s .width) s raw
+
+-- What the definitions answer in a case, and what is expected of them.
+unfoldable pub answered : Case → Line ⊎ ℕ
+answered (item s raw l) = inl (lineBy s raw)
+answered (frame first response n) = inr (readRefusal first response)
+
+unfoldable pub expected : Case → Line ⊎ ℕ
+expected (item s raw l) = inl l
+expected (frame first response n) = inr n
