@@ -8,7 +8,7 @@ use native.Mathlib.Numerals.{add-one}
 use borrow.Author.Tests.{lt-ltb, le-ltb, ltb-false, eq-eqb, eqb-true, eqb-false, not-false}
 use lib.Dec.{ltb, eqb, lit<}
 use lib.ListN.{length, take, drop, set, length-append, length-drop}
-use lib.Seq.{paste, length-paste, take-paste, drop-paste, take-length, length-take-le, take-at, drop-at, set-split, append-snoc, drop-drop}
+use lib.Seq.{paste, paste-zero, length-paste, take-length, length-take-le, take-append-le, take-take, take-at, drop-at, set-split, append-snoc, drop-drop}
 use Rattle.frame.specs.declared.header.ResponseKind.{ResponseKind}
 use Rattle.frame.specs.CheckByte.{checkByte, sealed}
 use Rattle.frame.specs.Header.{isChecked, isUnassigned, headerSize, kindOf}
@@ -23,10 +23,35 @@ pub pasted : (out : List ℕ) (at : ℕ) (u : List ℕ) → paste out at u (leng
 unfolding placed
 pasted out at u = ap (λ (v : List ℕ). take at out ++ v ++ drop (at + length u) out) (take-length u)
 
+-- Nothing placed leaves all as it was.
+pub placed-none : (out : List ℕ) (at : ℕ) → out ≡ placed out at []
+unfolding placed
+placed-none out at = paste-zero out at []
+
 -- One store is a run of one byte placed.
 pub stored : (out : List ℕ) (at b : ℕ) → at < length out → set out at b ≡ placed out at (b ∷ [])
 unfolding placed
 stored out at b h = set-split out at b h ∙ rw (add-one, append-snoc)
+
+-- One byte more, stored right before a run that was placed.
+pub stored-before :
+    (out : List ℕ) (at b : ℕ) (u : List ℕ)
+    → suc at + length u ≤ length out
+    → set (placed out (suc at) u) at b ≡ placed out at (b ∷ u)
+unfolding placed
+stored-before out at b u fits =
+    let rest : List ℕ = drop (suc at + length u) out in
+    let whole : List ℕ = take (suc at) out ++ u ++ rest in
+    let size : length (take (suc at) out) ≡ suc at = length-take-le (suc at) out (omega arith) in
+    let grouped : whole ≡ take (suc at) out ++ (u ++ rest) = append-assoc (take (suc at) out) u rest in
+    let front : take at whole ≡ take at out =
+    ap (take at) grouped ∙ take-append-le at (take (suc at) out) (u ++ rest) (omega (arith, size)) ∙ take-take at (suc at) out (omega arith) in
+    let back : drop (suc at) whole ≡ u ++ rest = ap (drop (suc at)) grouped ∙ drop-at (take (suc at) out) (u ++ rest) (suc at) size in
+    let same : suc at + length u ≡ at + length (b ∷ u) = omega arith in
+    set-split whole at b (omega (arith, ap length grouped, length-append (take (suc at) out) (u ++ rest), size))
+    ∙ (λ i. front i ++ b ∷ back i)
+    ∙ sym (append-assoc (take at out) (b ∷ u) rest)
+    ∙ ap (λ (n : ℕ). take at out ++ (b ∷ u) ++ drop n out) same
 
 module _ (out : List ℕ) (at : ℕ) (u : List ℕ) (fits : at + length u ≤ length out) where
   pub length-placed : length (placed out at u) ≡ length out

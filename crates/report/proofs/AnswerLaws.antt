@@ -4,12 +4,14 @@ use mathlib.Core.Bool.{cond}
 use mathlib.Core.List.{List, [], _∷_, _++_}
 use Prim.Native.Nat.{ℕ, _+_, _≤_, _<_, _%_}
 use native.Mathlib.Omega.{arith}
-use borrow.Author.Tests.{lt-ltb, le-ltb, eq-eqb, ne-eqb}
+use borrow.Author.Tests.{lt-ltb, le-ltb, eq-eqb, ne-eqb, eqb-true, eqb-false}
+use lib.Dec.{eqb, ltb}
 use lib.ListN.{length, getD, length-append}
-use Rattle.frame.specs.Frame.{Parts, placed}
+use Rattle.frame.specs.Frame.{Outcome, Parts, placed}
 use Rattle.frame.specs.Header.{headerSize}
 use Rattle.frame.specs.Reader.{readFrame}
 use Rattle.frame.specs.Frame as frame
+use Rattle.frame.proofs.Bytes.{cases}
 use Rattle.frame.proofs.HeaderLaws.{three-exactly}
 use Rattle.catalogue.specs.Supplement.{check, Accepted}
 use Rattle.catalogue.specs.Lookup.{catalogue}
@@ -44,6 +46,21 @@ pub fits : (rows out : List ℕ) → length rows ≤ length out → (shown (leng
 unfolding fitted
 fits rows out h = (rw (le-ltb (length out) (length rows) h), rw (le-ltb (length out) (length rows) h))
 
+refused-shown : {n place : ℕ} {rows : List ℕ} → refused n place ≡ shown rows → ⊥
+refused-shown e = let z : _≡_ {A = ℕ} 0 1 = cc in omega arith
+
+fitted-is : (room : ℕ) (rows shown-rows : List ℕ) → fitted room rows ≡ shown shown-rows → shown-rows ≡ rows
+unfolding fitted
+fitted-is room rows shown-rows e =
+    cases (ltb room (length rows)) (λ t. absurd (refused-shown (rw t at e))) (λ f. let g : shown rows ≡ shown shown-rows = rw f at e in cc)
+
+-- What rows that are shown tell.
+pub record Told (s first response rows : List ℕ) : Type 0 where
+  pub supplement : Accepted s
+  pub parts : Parts
+  pub frame : readFrame first response ≡ frame.accepted parts
+  pub told : rows ≡ reportBytes (reportOf (catalogue s) (messageOf parts))
+
 -- The supplement, then the frame, then its rows.
 module _ (s first response : List ℕ) (room : ℕ) where
   pub supplement-refused : (check s .refusal ≡ 0 → ⊥) → reportAnswer s first response room ≡ refused (check s .refusal) (check s .place)
@@ -65,3 +82,17 @@ module _ (s first response : List ℕ) (room : ℕ) where
       → reportAnswer s first response room ≡ fitted room (reportBytes (reportOf (catalogue s) (messageOf p)))
   unfolding answerOf
   frame-accepted a p e = accepted-supplement a ∙ ap (answerOf s room) e
+
+  -- Rows that are shown: the supplement and the frame are accepted, and the rows are those of the frame's message.
+  pub shown-is : (rows : List ℕ) → reportAnswer s first response room ≡ shown rows → Told s first response rows
+  unfolding answerOf
+  shown-is rows e =
+      cases (eqb (check s .refusal) 0)
+      (λ t.
+      let a : Accepted s = eqb-true (check s .refusal) 0 t in
+      read-told (readFrame first response) refl (sym (accepted-supplement a) ∙ e) a)
+      (λ f. absurd (let z : refused (check s .refusal) (check s .place) ≡ shown rows = sym (supplement-refused (eqb-false (check s .refusal) 0 f)) ∙ e in refused-shown z))
+    where
+      read-told : (o : Outcome Parts) → readFrame first response ≡ o → answerOf s room o ≡ shown rows → Accepted s → Told s first response rows
+      read-told (frame.refused n) r g a = absurd (refused-shown g)
+      read-told (frame.accepted p) r g a = record { supplement = a; parts = p; frame = r; told = fitted-is room _ rows g }

@@ -182,7 +182,7 @@ module _ (m : Message) (s t : List ℕ) (w : Within (catalogue s) (catalogue t))
         responses = responses-kept;
         missing = missing-kept;
         not-clear = λ n e. n (verdict-clear _ _ covered e);
-        rows = λ l k e. ap row e;
+        rows = λ n l k e u f. ap row (some-is (sym (shown-kept n l e u) ∙ f));
       }
 
 -- "Take any accepted frame and two accepted supplements, every record of the first standing in the second too."

@@ -6,10 +6,10 @@ use native.Mathlib.Omega.{arith}
 use native.Mathlib.Nat.{pow-suc, div-one, div-div-eq-div-mul}
 use native.Mathlib.Numerals.{add-one}
 use lib.ListN.{length, take, drop, getD, set, length-append, length-take, length-map, List·getD-map}
-use lib.Seq.{set-split, take-append-le, take-take, drop-at, length-take-le, take-suc, take-add, getD-take, paste-zero}
+use lib.Seq.{length-take-le, take-suc, take-add, getD-take}
 use lib.Ieee.{binary64, nan, toBits}
 use Rattle.frame.specs.Frame.{placed}
-use Rattle.frame.proofs.WriterLaws.{stored, length-placed, joined}
+use Rattle.frame.proofs.WriterLaws.{stored, stored-before, placed-none, length-placed, joined}
 use Rattle.report.specs.declared.line.Line.{Line}
 use Rattle.report.specs.declared.line.Held.{Held}
 use Rattle.report.specs.declared.line.Line.the-variants.{Number, State, Bits, Text, Digits, Invalid, Short, Unknown, Left, Answered}
@@ -19,30 +19,6 @@ pub length-big-endian : (n x : ℕ) → length (bigEndian n x) ≡ n
 unfolding bigEndian
 length-big-endian zero x = refl
 length-big-endian (suc n) x = ap suc (length-big-endian n x)
-
-pub placed-none : (out : List ℕ) (at : ℕ) → out ≡ placed out at []
-unfolding placed
-placed-none out at = paste-zero out at []
-
--- One byte more, stored right before a run that was placed.
-pub stored-before :
-    (out : List ℕ) (at b : ℕ) (u : List ℕ)
-    → suc at + length u ≤ length out
-    → set (placed out (suc at) u) at b ≡ placed out at (b ∷ u)
-unfolding placed
-stored-before out at b u fits =
-    let rest : List ℕ = drop (suc at + length u) out in
-    let whole : List ℕ = take (suc at) out ++ u ++ rest in
-    let size : length (take (suc at) out) ≡ suc at = length-take-le (suc at) out (omega arith) in
-    let grouped : whole ≡ take (suc at) out ++ (u ++ rest) = append-assoc (take (suc at) out) u rest in
-    let front : take at whole ≡ take at out =
-    ap (take at) grouped ∙ take-append-le at (take (suc at) out) (u ++ rest) (omega (arith, size)) ∙ take-take at (suc at) out (omega arith) in
-    let back : drop (suc at) whole ≡ u ++ rest = ap (drop (suc at)) grouped ∙ drop-at (take (suc at) out) (u ++ rest) (suc at) size in
-    let same : suc at + length u ≡ at + length (b ∷ u) = omega arith in
-    set-split whole at b (omega (arith, ap length grouped, length-append (take (suc at) out) (u ++ rest), size))
-    ∙ (λ i. front i ++ b ∷ back i)
-    ∙ sym (append-assoc (take at out) (b ∷ u) rest)
-    ∙ ap (λ (n : ℕ). take at out ++ (b ∷ u) ++ drop n out) same
 
 -- A number whose last bytes are written: how many are left, and what is left of the number.
 pub record Counted (x n at : ℕ) (out₀ : List ℕ) (out : List ℕ) (left rest : ℕ) : Type 0 where

@@ -7,3 +7,4 @@ pub mod Demand
 pub mod Answer
 pub mod Left
 pub mod BenchCases
+pub mod TwoCalls
