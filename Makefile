@@ -6,6 +6,8 @@ CFLAGS := -std=c99 -O2 -Wall -Wextra -Wpedantic -Werror -Iinclude
 CARGO := CARGO_TARGET_DIR=$(CURDIR)/build/peer RAKHUBOLE_ARCHIVE_DIR=$(CURDIR)/target/staticlib cargo
 RANDOM_FRAMES := 1000000
 RANDOM_SUPPLEMENTS := 300000
+RANDOM_REPORTS := 500000
+RANDOM_PROMISES := 100000
 SEED := 1
 # Document 003 as text; where it is not at hand the tables are taken as committed.
 SOURCE := ../shared/003_c37128ede7d9c935.txt
@@ -45,7 +47,7 @@ tables-check:
 
 # The independent second program.
 peer: archive
-	cd peer && $(CARGO) build --offline --release --bins --features supplement
+	cd peer && $(CARGO) build --offline --release --bins --features report
 
 peer-tests:
 	cd peer && $(CARGO) test --offline --release --lib
@@ -56,12 +58,16 @@ vectors: peer
 	$(PEER)/vectors frame build/vectors/frame_vectors
 	$(PEER)/vectors supplement build/vectors/supplement_vectors
 	$(PEER)/vectors tables build/vectors/sae_rows
+	$(PEER)/vectors report build/vectors/report_vectors
+	$(PEER)/vectors bench build/vectors/bench_cases
 	for f in $$(cd build/vectors && find . -type f); do cmp build/vectors/$$f crates/$$f || exit 1; done
 
 # Random cases through the archive, judged by the second program.
 random: peer
 	$(PEER)/compare frame $(RANDOM_FRAMES) $(SEED)
 	$(PEER)/compare supplement $(RANDOM_SUPPLEMENTS) $(SEED)
+	$(PEER)/compare report $(RANDOM_REPORTS) $(SEED)
+	$(PEER)/compare promise $(RANDOM_PROMISES) $(SEED)
 
 demo-test: build/demo
 	build/demo > build/demo.out

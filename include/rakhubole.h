@@ -1,5 +1,5 @@
-/* rakhubole.h: frames of SAE J1850 with consolidated headers, and the
- * supplement of records that makers add to the SAE tables.
+/* rakhubole.h: frames of SAE J1850 with consolidated headers, the supplement
+ * of records that makers add to the SAE tables, and reports of frames.
  *
  * Every call takes byte runs and numbers, answers one uint64_t, and keeps
  * nothing between calls. It answers for all input and asks no check of its
@@ -28,7 +28,8 @@ extern "C" {
 
 /* The refusals. The reader tests 1 to 6 in that order, the writer 7, 4, 5, 1,
  * 8; the first that applies is given. A supplement is refused with 10 or, at
- * its first record with a fault, with the lowest of 11 to 15 that applies. */
+ * its first record with a fault, with the lowest of 11 to 15 that applies. A
+ * report tests the supplement, then the frame, then 8. */
 enum {
     /* more than 12 bytes in all, both runs and their check bytes counted */
     RAKHUBOLE_OVER_TWELVE_BYTES = 1,
@@ -109,6 +110,75 @@ uint64_t rakhubole_j1850_write(const uint8_t *header, size_t header_length,
 uint64_t rakhubole_supplement_check(const uint8_t *supplement, size_t supplement_length);
 
 #define RAKHUBOLE_PLACE(answer) ((size_t)((answer) >> 8 & 0xFFFFFF))
+
+/* Reports a frame under the SAE tables and a supplement: up to sixteen item
+ * lines in the order of the layout's PRNs, the remainder, the response and the
+ * verdict, each a row at the start of `out`. RAKHUBOLE_ROWS_MOST bytes are
+ * always enough.
+ *
+ * Accepted: bits 8 to 31 of the answer are the length of the rows. No byte of
+ * `out` beyond them is touched. Refused: with 10 to 15 these bits are the place
+ * of the first record with a fault.
+ */
+uint64_t rakhubole_j1850_report(const uint8_t *supplement, size_t supplement_length,
+                                const uint8_t *first, size_t first_length,
+                                const uint8_t *response, size_t response_length,
+                                uint8_t *out, size_t out_length);
+
+#define RAKHUBOLE_ROWS_LENGTH(answer) ((size_t)((answer) >> 8 & 0xFFFFFF))
+#define RAKHUBOLE_ROWS_MOST 150
+
+/* A row is its kind and a body, numbers with the most significant byte first.
+ * Codes and raw numbers are the item's own bits, zeros before them. */
+enum {
+    /* an item's number: 8 bytes, the bits of a double */
+    RAKHUBOLE_ROW_NUMBER = 1,
+    /* an item's code: 4 bytes */
+    RAKHUBOLE_ROW_STATE = 2,
+    RAKHUBOLE_ROW_BITS = 3,
+    RAKHUBOLE_ROW_TEXT = 4,
+    RAKHUBOLE_ROW_DIGITS = 5,
+    /* an item whose raw number, byte or digit is invalid: 4 bytes, raw */
+    RAKHUBOLE_ROW_INVALID = 6,
+    /* an item, or the remainder, for which the data are too short: no body */
+    RAKHUBOLE_ROW_SHORT = 7,
+    /* a line that nothing accounts for: 1 byte, why */
+    RAKHUBOLE_ROW_UNKNOWN = 8,
+    /* the remainder: 1 byte, the bits after the last item */
+    RAKHUBOLE_ROW_LEFT = 9,
+    /* the response: 1 byte, its kind, 0 to 2 */
+    RAKHUBOLE_ROW_ANSWERED = 10,
+    /* the last row: 1 byte, the verdict */
+    RAKHUBOLE_ROW_VERDICT = 11
+};
+
+/* The body of an Unknown row. */
+enum {
+    /* an item's PRN is in neither table */
+    RAKHUBOLE_UNKNOWN_PRN = 1,
+    /* an item, or the remainder, behind such a PRN: its place is lost */
+    RAKHUBOLE_UNKNOWN_PLACE = 2,
+    /* no SLOT has the item's form, width and number */
+    RAKHUBOLE_UNKNOWN_SLOT = 3,
+    /* form BMM, SFP or PKT, or a width that ASC or BCD cannot have */
+    RAKHUBOLE_UNKNOWN_FORM = 4,
+    /* a state outside the SLOT's limits */
+    RAKHUBOLE_UNKNOWN_STATE = 5,
+    /* an item of more than 32 bits */
+    RAKHUBOLE_UNKNOWN_WIDTH = 6,
+    /* the data of a kind 3 response */
+    RAKHUBOLE_UNKNOWN_RESPONSE = 7,
+    /* the supplement has no layout for the frame */
+    RAKHUBOLE_UNKNOWN_LAYOUT = 8
+};
+
+/* The body of the verdict's row: Flagged if a line is Invalid or Short or Left
+ * is not 0; otherwise Unknown if a line is Unknown; otherwise Clear. */
+enum {
+    RAKHUBOLE_CLEAR = 1,
+    RAKHUBOLE_FLAGGED = 2,
+    RAKHUBOLE_VERDICT_UNKNOWN = 3
+};
 
 #ifdef __cplusplus
 }

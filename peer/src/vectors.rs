@@ -27,11 +27,12 @@ use std::collections::HashSet;
 use std::path::Path;
 use std::{fs, io};
 
-/// The two files of a folder; a case that is already there is not added.
+/// The files of a folder; a case that is already there is not added.
 #[derive(Default)]
 pub struct Files {
     stdin: String,
     stdout: String,
+    names: String,
     seen: HashSet<String>,
 }
 
@@ -53,6 +54,12 @@ impl Files {
         new
     }
 
+    /// A case with a name that stands in a file beside it, on the line of the case.
+    fn add_named(&mut self, name: &str, case: String, expected: &str) {
+        assert!(self.add(case, expected), "{name} is there already");
+        self.names += &format!("{name}\n");
+    }
+
     /// The programs that run the cases print hex digits in lower case.
     fn expect(&mut self, expected: &str) {
         let lower = expected.chars().map(|letter| match letter {
@@ -70,6 +77,9 @@ impl Files {
         fs::create_dir_all(folder)?;
         if !self.stdin.is_empty() {
             fs::write(folder.join("stdin"), &self.stdin)?;
+        }
+        if !self.names.is_empty() {
+            fs::write(folder.join("names"), &self.names)?;
         }
         fs::write(folder.join("stdout"), &self.stdout)
     }

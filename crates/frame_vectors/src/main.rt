@@ -36,18 +36,6 @@ fn show_word(word: u64) {
     io::print_hex(STDOUT_FILENO, word, 16);
 }
 
-fn show_byte(b: u8) {
-    io::print_hex(STDOUT_FILENO, b as u64, 2);
-}
-
-fn show_bytes(bytes: &[u8]) {
-    let mut i: usize = 0;
-    while i < bytes.len() {
-        show_byte(bytes[i]);
-        i += 1;
-    }
-}
-
 fn read_case(line: &[u8]) {
     let first = run_at(line, 5);
     let response = run_at(line, 41);
@@ -73,7 +61,7 @@ fn write_case(line: &[u8]) {
     let mut out = [0xA5u8; 32];
     show_word(write_into(&header[..h], &body[..d], &answer[..a], &mut out, room));
     io::write_all(STDOUT_FILENO, b" ");
-    show_bytes(&out);
+    hex::print_bytes(&out);
 }
 
 // Reads a line, runs its case and answers whether there may be another.

@@ -1,4 +1,6 @@
-// Hexadecimal text to bytes, for the programs that read vector files.
+// Hexadecimal text to bytes and back, for the programs that run vector files.
+use libc::STDIN_FILENO;
+use libc::STDOUT_FILENO;
 ghost use mathlib.Core.Path.{_≡_};
 ghost use lib.ListN.{getD, length};
 ghost use Rattle.hex.specs.Digits.{digitValue, byteAt, bytesFrom};
@@ -46,6 +48,23 @@ pub fn fill(text: &[u8], out: &mut [u8])
     let mut i: usize = 0;
     while i < out.len() {
         out[i] = byte_at(text, i * 2);
+        i += 1;
+    }
+}
+
+// Reads so many digits, or characters between them, to the start of the text; whether all were there and had room.
+pub fn read_digits(text: &mut [u8], size: usize) -> bool {
+    if text.len() < size {
+        return false;
+    }
+    size <= io::read_full(STDIN_FILENO, &mut text[..size])
+}
+
+// Prints bytes, two digits each.
+pub fn print_bytes(bytes: &[u8]) {
+    let mut i: usize = 0;
+    while i < bytes.len() {
+        io::print_hex(STDOUT_FILENO, bytes[i] as u64, 2);
         i += 1;
     }
 }

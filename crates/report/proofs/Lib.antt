@@ -9,5 +9,4 @@ pub mod RowsLaws
 pub mod AnswerLaws
 pub mod SizeLaws
 pub mod LeftLaws
-pub mod BenchLaws
 pub mod TwoCalls

@@ -15,22 +15,26 @@ use Rattle.report.specs.declared.line.Line.the-variants.{Short, Unknown}
 use Rattle.report.specs.Bits.{cut}
 use Rattle.report.specs.Scaling.{formLine}
 
--- An item whose PRN is known, from a bit on: Short if it ends past the data, Unknown 3 if no SLOT joins it, else by its form.
+-- "no SLOT of that form, width and number, Unknown 3"; with one, by the form.
 unfoldable pub slotLine : Option SlotRow → PrnRow → List ℕ → ℕ → Line
 slotLine none row items at = Unknown 3
 slotLine (some slot) row items at = formLine (row .form) (row .width) slot (cut items at (row .width))
 
+-- "item ends past the data"
 abbrev pub overruns : PrnRow → List ℕ → ℕ → Bool
 overruns row items at = ltb (8 * length items) (at + row .width)
 
+-- "PRN in neither table, Unknown 1"; "item ends past the data, Short".
 unfoldable pub rowLine : Catalogue → Option PrnRow → List ℕ → ℕ → Line
 rowLine c none items at = Unknown 1
 rowLine c (some row) items at = cond (overruns row items at) Short (slotLine (c .slot (row .form) (row .width) (row .slot)) row items at)
 
+-- "the place is lost from here"; behind a Short line it is past the data, else behind the item.
 unfoldable pub rowNext : Option PrnRow → List ℕ → ℕ → Place
 rowNext none items at = Lost
 rowNext (some row) items at = cond (overruns row items at) Past (Bit (at + row .width))
 
+-- "place lost, Unknown 2; an earlier line Short, Short"; else by the PRN's row.
 unfoldable pub itemLine : Catalogue → List ℕ → Place → ℕ → Line
 itemLine c items Lost prn = Unknown 2
 itemLine c items Past prn = Short

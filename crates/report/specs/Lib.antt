@@ -6,5 +6,4 @@ pub mod Rows
 pub mod Demand
 pub mod Answer
 pub mod Left
-pub mod BenchCases
 pub mod TwoCalls

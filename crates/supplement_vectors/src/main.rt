@@ -35,13 +35,6 @@ fn run_case(text: &[u8], bytes: &mut [u8], n: usize)
     io::write_all(STDOUT_FILENO, b"\n");
 }
 
-// Reads the digits and the end of a line into the text; whether all were there.
-fn read_text(text: &mut [u8], size: usize) -> bool
-    requires { ⌜ size ≤ length (now text) ⌝ }
-{
-    size <= io::read_full(STDIN_FILENO, &mut text[..size])
-}
-
 // Reads a line, runs its case and answers whether there may be another.
 fn next_case() -> bool {
     let mut head = [0u8; 5];
@@ -53,7 +46,7 @@ fn next_case() -> bool {
         return false;
     }
     let mut text = io::large_buffer();
-    if !read_text(&mut text, n * 2 + 1) {
+    if !hex::read_digits(&mut text, n * 2 + 1) {
         return false;
     }
     let mut bytes = zeros();

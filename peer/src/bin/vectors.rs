@@ -1,6 +1,7 @@
 //! `vectors LAYER DIR` writes the cases of the frame, supplement or report layer
 //! to DIR/stdin and the expected output to DIR/stdout; `vectors tables DIR`
-//! writes the SAE tables to DIR/stdout.
+//! writes the SAE tables to DIR/stdout; `vectors bench DIR` writes the bench
+//! cases of the papers, with a name for each in DIR/names.
 
 use peer::vectors;
 use std::env;
@@ -14,8 +15,9 @@ fn main() -> ExitCode {
         ["tables", _] => vectors::tables::make(),
         ["supplement", _] => vectors::supplement::make(),
         ["report", _] => vectors::report::make(),
+        ["bench", _] => vectors::report::make_bench(),
         _ => {
-            eprintln!("usage: vectors frame|tables|supplement|report DIR");
+            eprintln!("usage: vectors frame|tables|supplement|report|bench DIR");
             return ExitCode::from(2);
         }
     };

@@ -30,6 +30,18 @@ pub fn make() -> (Files, String, Vec<String>) {
     (files, summary, coverage.missing())
 }
 
+/// The bench cases and the easy errors, each with its name and the answer that
+/// the papers print.
+pub fn make_bench() -> (Files, String, Vec<String>) {
+    let mut files = Files::default();
+    for bench in report_bench::all() {
+        let expected = expected_line(bench.case.out_length, bench.number, &bench.rows);
+        files.add_named(bench.name, case_line(&bench.case), &expected);
+    }
+    let summary = format!("bench: {} cases", files.cases());
+    (files, summary, Vec::new())
+}
+
 fn cases() -> Vec<ReportCase> {
     let mut random = Random::new(SEED);
     let bench = report_bench::all().into_iter();

@@ -45,6 +45,15 @@ fn files_are_whole_and_the_same_each_time() {
     assert!(again.stdin == files.stdin && again.stdout == files.stdout);
 }
 
+#[test]
+fn bench_cases_have_names_and_printed_answers() {
+    let (files, _, _) = make_bench();
+    assert_eq!(files.names.lines().count(), files.cases());
+    assert_eq!(files.names.lines().next(), Some("whole report"));
+    let first = files.stdout.lines().next().unwrap();
+    assert!(first.starts_with("0000000000001800 014059400000000000"));
+}
+
 /// What a line of expected output would show of a faulty report.
 #[test]
 fn deliberate_faults_are_noticed() {

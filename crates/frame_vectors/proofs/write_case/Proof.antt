@@ -60,11 +60,11 @@ slice-aggregate-write-all c = search needs
 write-all-requires : tie.Need-write-all-requires
 write-all-requires c κs = search needs
 
-slice-aggregate-show-bytes : tie.Need-slice-aggregate-show-bytes
-slice-aggregate-show-bytes c = search needs
+slice-aggregate-print-bytes : tie.Need-slice-aggregate-print-bytes
+slice-aggregate-print-bytes c = search needs
 
-show-bytes-requires : tie.Need-show-bytes-requires
-show-bytes-requires c κs = search needs
+print-bytes-requires : tie.Need-print-bytes-requires
+print-bytes-requires c κs = search needs
 
 returns : tie.Need-returns
 returns c = search needs
@@ -91,6 +91,6 @@ write-case-spec =
     show-word-requires
     slice-aggregate-write-all
     write-all-requires
-    slice-aggregate-show-bytes
-    show-bytes-requires
+    slice-aggregate-print-bytes
+    print-bytes-requires
     returns)

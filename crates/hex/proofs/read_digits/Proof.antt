@@ -3,8 +3,11 @@ use mathlib.Core.Path.{sym}
 use native.Mathlib.Omega.{arith}
 use lib.Seq.{length-take-le}
 use borrow.Author.Needs.{needs}
-use Rattle.supplement_vectors.proofs.read_text.Statement.{statement}
-use Rattle.supplement_vectors.proofs.read_text.Tie as tie
+use Rattle.hex.proofs.read_digits.Statement.{statement}
+use Rattle.hex.proofs.read_digits.Tie as tie
+
+returns : tie.Need-returns
+returns c = search needs
 
 slice-relend-prefix-read-full : tie.Need-slice-relend-prefix-read-full
 slice-relend-prefix-read-full c = search needs
@@ -18,15 +21,16 @@ read-full-requires c κs = search needs
 same-length : tie.Need-same-length
 same-length c = search needs
 
-returns : tie.Need-returns
-returns c = search needs
+returns-2 : tie.Need-returns-2
+returns-2 c = search needs
 
-pub read-text-spec : {M : Type 1} → statement M
-read-text-spec =
+pub read-digits-spec : {M : Type 1} → statement M
+read-digits-spec =
     tie.close
     (tie.spec
+    returns
     slice-relend-prefix-read-full
     slice-aggregate-read-full
     read-full-requires
     same-length
-    returns)
+    returns-2)

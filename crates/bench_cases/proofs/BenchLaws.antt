@@ -1,4 +1,5 @@
--- P1 to P13 of document 01: one computed test over the table. The cases ask what the definitions of the layers below compute, so these are opened here.
+-- P1 to P13 of document 01: one computed test over the table. The cases ask what the definitions of the layers compute, so these are
+-- opened here, and here alone.
 use mathlib.Core.Path.{_≡_, refl}
 use mathlib.Core.List.{map}
 use lib.Ieee.{ofInt, div}
@@ -9,8 +10,8 @@ use Rattle.sae.specs.Rows.{inOrder}
 use Rattle.sae.specs.Tables.{slotRows}
 use Rattle.sae.specs.Search.{firstWhere}
 use Rattle.sae.specs.Sae.{saeSlot}
 use Rattle.report.specs.Scaling.{signed, pattern, rawNumber, above, numberLine, withinLimits, formLine}
-use Rattle.report.specs.BenchCases.{benchCases, lineBy, answered, expected}
+use Rattle.bench_cases.specs.BenchCases.{benchCases, lineBy, answered, expected}
 
 -- In every case of the table the definitions answer what is expected.
 pub bench-cases-hold : map answered benchCases ≡ map expected benchCases

@@ -1,0 +1,4 @@
+// The report vectors of the second program, through the exported call.
+fn main() {
+    report_cases::run_all();
+}
