@@ -1,6 +1,5 @@
 -- Laws of the report call's answer, by case.
 use mathlib.Core.Path.{_≡_, refl, sym, ap, _∙_}
-use mathlib.Core.Bool.{cond}
 use mathlib.Core.List.{List, [], _∷_, _++_}
 use Prim.Native.Nat.{ℕ, _+_, _≤_, _<_, _%_}
 use native.Mathlib.Omega.{arith}
@@ -18,7 +17,7 @@ use Rattle.catalogue.specs.Lookup.{catalogue}
 use Rattle.report.specs.declared.message.Report as struct
 use Rattle.report.specs.Report.{Report, keyByte, keyTarget, messageOf, reportOf, linesOf, verdictOf, verdict}
 use Rattle.report.specs.Rows.{rowsOf, reportBytes}
-use Rattle.report.specs.Answer.{shownLines, Answer, refused, shown, fitted, answerOf, reportAnswer, outAfter, sized}
+use Rattle.report.specs.Answer.{shownLines, refused, shown, fitted, answerOf, reportAnswer, outAfter, sized}
 
 -- The key of a header of three bytes, and of one.
 pub key-of-three : (h : List ℕ) → headerSize h ≡ 3 → (keyByte h ≡ getD h 0 0 % 32) × (keyTarget h ≡ getD h 1 0)

@@ -1,7 +1,7 @@
 -- Demand 3, proved for every accepted frame and every two accepted supplements.
 use mathlib.Core.Path.{_≡_, refl, sym, ap, _∙_, subst}
 use mathlib.Core.Logic.{_↔_, _⊎_, inl, inr, ⊎-elim}
-use mathlib.Core.Bool.{Bool, true, false, cond, true≢false}
+use mathlib.Core.Bool.{true, false, true≢false}
 use mathlib.Core.List.{List, [], _∷_, _++_, List·Memᴰ, List·Memᴰ·append-cases, List·Memᴰ·eq-of-singleton, List·Memᴰ·head, Memᴰ·append-left, Memᴰ·append-right}
 use mathlib.Core.Option.{Option, none, some}
 use Prim.Native.Nat.{ℕ, zero, suc}
@@ -16,7 +16,7 @@ use Rattle.catalogue.specs.Lookup.{Catalogue, Within, catalogue}
 use Rattle.catalogue.proofs.WithinLaws.{Among, within}
 use Rattle.report.specs.declared.line.Line.{Line}
 use Rattle.report.specs.declared.items.Place.the-variants.{Bit}
-use Rattle.report.specs.Report.{Message, messageOf, Group, Report, layoutSought, itemsOf, groupOf, responseLine, reportOf, groupLines, linesOf, isUnknown, any, verdict}
+use Rattle.report.specs.Report.{Message, messageOf, Group, layoutSought, itemsOf, groupOf, responseLine, reportOf, groupLines, linesOf, isUnknown, any, verdict}
 use Rattle.report.specs.Rows.{row}
 use Rattle.report.specs.Demand.{Name, item, remainder, response, lineIn, remainderIn, lineAt, under, Keeps}
 use Rattle.report.proofs.KeptLaws.{Kept, AllKept, items-kept, place-same, remainder-kept}

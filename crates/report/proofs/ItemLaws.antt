@@ -19,7 +19,10 @@ use Rattle.report.specs.declared.items.Place.{Place}
 use Rattle.report.specs.declared.items.Place.the-variants.{Bit, Lost, Past}
 use Rattle.report.specs.declared.line.Held.{Held}
 use Rattle.report.specs.declared.line.Line.{Line}
-use Rattle.report.specs.declared.line.Line.the-variants.{State, Bits, Text, Digits, Invalid, Short, Unknown, Left}
+use Rattle.report.specs.declared.tally.Tally.{Tally}
+use Rattle.report.specs.Tally.{Tallies, OneMore}
+use Rattle.report.proofs.TallyLaws.{one-tallied}
+use Rattle.report.specs.declared.line.Line.the-variants.{State, Bits, Text, Digits, Invalid, Short, Unknown}
 use Rattle.report.specs.Scaling.{formLine, numberLine, withinLimits, digitsPass, printable, decimal}
 use Rattle.sae.specs.Rows.{SNM, SED, BMP, ASC}
 use Rattle.report.proofs.ScalingLaws.{number-not-nan}
@@ -86,30 +89,33 @@ unfolding allHold
 numbers-snoc [] l a h = (h, tt)
 numbers-snoc (x ∷ ls) l a h = (a .0, numbers-snoc ls l (a .1) h)
 
--- The first i lines stand in the array, and the place is the one behind them.
-pub record Filled (c : Catalogue) (items prns : List ℕ) (lines : List Held) (place : Place) (i : ℕ) : Type 0 where
+-- The first i lines stand in the array, the place is the one behind them, and the tally is theirs.
+pub record Filled (c : Catalogue) (items prns : List ℕ) (lines : List Held) (place : Place) (tally : Tally) (i : ℕ) : Type 0 where
   pub shown : firstLines i lines ≡ itemLines c items (Bit 0) (take i prns)
   pub moved : place ≡ placeAfter c items (Bit 0) (take i prns)
   pub inside : Inside items place
   pub number : allHold (firstLines i lines)
   pub size : length lines ≡ 16
+  pub tallied : Tallies tally (firstLines i lines)
 
 module _ (c : Catalogue) (items prns : List ℕ) where
-  pub started : (lines : List Held) → length lines ≡ 16 → Filled c items prns lines (Bit 0) 0
+  pub started : (lines : List Held) (tally : Tally) → length lines ≡ 16 → Tallies tally [] → Filled c items prns lines (Bit 0) tally 0
   unfolding itemLines placeAfter allHold
-  started lines e = record { shown = refl; moved = refl; inside = omega arith; number = tt; size = e }
+  started lines tally e t = record { shown = refl; moved = refl; inside = omega arith; number = tt; size = e; tallied = t }
 
   pub one-more :
-      (lines : List Held) (place : Place) (i : ℕ)
-      → Filled c items prns lines place i
+      (lines : List Held) (place : Place) (tally : Tally) (i : ℕ)
+      → Filled c items prns lines place tally i
       → i < 16
       → length prns ≡ 16
       → (line : Line) (place′ : Place)
       → line ≡ itemLine c items place (getD prns i 0)
       → place′ ≡ next c items place (getD prns i 0)
       → holdsNumber line
-      → Filled c items prns (set lines i (record { line = line })) place′ (i + 1)
-  one-more lines place i f h e line place′ p q n =
+      → (tally′ : Tally)
+      → OneMore tally line tally′
+      → Filled c items prns (set lines i (record { line = line })) place′ tally′ (i + 1)
+  one-more lines place tally i f h e line place′ p q n tally′ t =
       let prn : ℕ = getD prns i 0 in
       let more : take (i + 1) prns ≡ take i prns ++ prn ∷ [] = ap (λ (k : ℕ). take k prns) (add-one i) ∙ take-suc prns i 0 (omega arith) in
       let held : firstLines (i + 1) (set lines i (record { line = line })) ≡ firstLines i lines ++ line ∷ [] =
@@ -124,6 +130,7 @@ module _ (c : Catalogue) (items prns : List ℕ) where
         inside = subst (Inside items) (sym q) (next-inside c items place prn (f .inside));
         number = subst allHold (sym held) (numbers-snoc (firstLines i lines) line (f .number) n);
         size = length-set lines i (record { line = line }) ∙ f .size;
+        tallied = subst (Tallies tally′) (sym held) (one-tallied (firstLines i lines) (f .tallied) t);
       }
 
 -- The layout sought, with a selector and without.

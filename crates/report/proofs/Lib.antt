@@ -10,3 +10,4 @@ pub mod AnswerLaws
 pub mod SizeLaws
 pub mod LeftLaws
 pub mod TwoCalls
+pub mod TallyLaws

@@ -111,6 +111,10 @@ unfolding rowsOf
 rows-append [] b = refl
 rows-append (l ∷ a) b = ap (λ (u : List ℕ). row l ++ u) (rows-append a b) ∙ sym (append-assoc (row l) (rowsOf a) (rowsOf b))
 
+pub rows-snoc : (ls : List Line) (l : Line) → length (rowsOf (ls ++ l ∷ [])) ≡ length (rowsOf ls) + length (row l)
+unfolding rowsOf
+rows-snoc ls l = ap length (rows-append ls (l ∷ []) ∙ ap (λ (s : List ℕ). rowsOf ls ++ s) (append-nil (row l))) ∙ length-append (rowsOf ls) (row l)
+
 pub rows-length : (ls : List Line) → length (rowsOf ls) ≤ 9 * length ls
 unfolding rowsOf
 rows-length [] = omega arith
@@ -144,12 +148,6 @@ pub holds-line : (lines : List Held) (count i : ℕ) → i < count → count ≤
 holds-line lines count i h fits a =
     let size : length (firstLines count lines) ≡ count = length-take-le count _ (omega (arith, length-map lines (λ (h : Held). h .line))) in
     subst holdsNumber (getD-take count _ i (Number nan) h ∙ line-is lines i) (holds-at (firstLines count lines) i (Number nan) (omega (arith, size)) a)
-
-pub lines-more : (lines : List Held) (i : ℕ) → i < length lines → firstLines (i + 1) lines ≡ firstLines i lines ++ lineAt lines i ∷ []
-lines-more lines i h =
-    ap (λ (m : ℕ). firstLines m lines) (add-one i)
-    ∙ take-suc (map (λ (h : Held). h .line) lines) i (Number nan) (omega (arith, length-map lines (λ (h : Held). h .line)))
-    ∙ ap (λ (l : Line). firstLines i lines ++ l ∷ []) (line-is lines i)
 
 pub rows-more :
     (lines : List Held) (i : ℕ) → i < length lines → rowsOf (firstLines (i + 1) lines) ≡ rowsOf (firstLines i lines) ++ row (lineAt lines i)

@@ -1,6 +1,5 @@
 -- How long the rows of a report can be, and what is handed over of them.
-use mathlib.Core.Path.{_≡_, refl, sym, ap, _∙_}
-use mathlib.Core.Bool.{Bool, true, false, cond}
+use mathlib.Core.Path.{_≡_, refl, ap, _∙_}
 use mathlib.Core.List.{List, [], _∷_, _++_}
 use mathlib.Core.Option.{Option, none, some}
 use Prim.Native.Nat.{ℕ, suc, _+_, _*_, _≤_}
@@ -17,7 +16,6 @@ use Rattle.catalogue.proofs.CheckLaws.{place-small}
 use Rattle.catalogue.proofs.LookupLaws.{layout-sixteen}
 use Rattle.report.specs.declared.items.Place.{Place}
 use Rattle.report.specs.declared.items.Place.the-variants.{Bit, Lost, Past}
-use Rattle.report.specs.declared.line.Line.{Line}
 use Rattle.report.specs.Items.{itemLines, next}
 use Rattle.report.specs.Report.{Message, Group, messageOf, layoutSought, itemsOf, remainderAt, groupOf, responseLine, reportOf, groupLines, linesOf, verdict}
 use Rattle.report.specs.Rows.{row, rowsOf, reportBytes}

@@ -1,20 +1,18 @@
 -- Demand 3 on the call: two calls for one frame, both accepted, the records of the first supplement standing in the second.
-use mathlib.Core.Path.{_≡_, refl, sym, ap, _∙_}
+use mathlib.Core.Path.{_≡_, sym, ap, _∙_}
 use mathlib.Core.List.{List, [], _∷_, _++_}
 use Prim.Native.Nat.{ℕ, _+_, _-_}
 use native.Mathlib.Omega.{arith}
 use lib.ListN.{length, getD}
 use lib.Seq.{getD-append-add}
 use Rattle.frame.specs.Frame.{Parts, accepted}
-use Rattle.frame.specs.Reader.{readFrame}
-use Rattle.catalogue.specs.Supplement.{Accepted}
 use Rattle.catalogue.proofs.WithinLaws.{Among}
 use Rattle.report.specs.Report.{Message, Report, messageOf, linesOf, verdict}
 use Rattle.report.specs.Rows.{rowsOf, reportBytes}
 use Rattle.report.specs.Answer.{shown, reportAnswer}
 use Rattle.report.specs.Demand.{under, Keeps}
 use Rattle.report.specs.TwoCalls.{verdictIn, Compared}
-use Rattle.report.proofs.AnswerLaws.{Told, shown-is, verdict-length}
+use Rattle.report.proofs.AnswerLaws.{shown-is, verdict-length}
 use Rattle.report.proofs.DemandThree.{demand-three}
 
 verdict-last : (r : Report) → verdictIn (reportBytes r) ≡ verdict r

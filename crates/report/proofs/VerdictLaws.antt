@@ -9,7 +9,6 @@ use borrow.Author.Tests.{eq-eqb, ne-eqb}
 use Rattle.frame.proofs.Bytes.{cases}
 use Rattle.report.specs.declared.line.Line.{Line}
 use Rattle.report.specs.declared.line.Line.the-variants.{Number, State, Bits, Text, Digits, Invalid, Short, Unknown, Left, Answered}
-use Rattle.report.specs.declared.verdict.Marks.{Marks}
 use Rattle.report.specs.Report.{Report, linesOf, isFlagged, isUnknown, any, verdictOf, verdict}
 use Rattle.report.proofs.KeptLaws.{AllKept}
 
@@ -95,36 +94,6 @@ kept-covered (l ∷ ls) (m ∷ ms) k =
   where
     rest : (x : Line) (xs : List Line) → (isUnknown x || any isUnknown xs) ≡ false → any isUnknown xs ≡ false
     rest x xs e = cases (isUnknown x) (λ t. absurd (true≢false (sym (rw t) ∙ e))) (λ f. sym (rw f) ∙ e)
-
--- A test over the item lines and the two lines behind them, kept line by line.
-pub any-ends :
-    (p : Line → Bool) (ls : List Line) (l m : Line) (a b d : Bool)
-    → a ≡ any p ls
-    → b ≡ (a || p l)
-    → d ≡ (b || p m)
-    → d ≡ any p ((ls ++ l ∷ []) ++ m ∷ [])
-any-ends p ls l m a b d x y z =
-    z
-    ∙ ap (λ (t : Bool). t || p m) (y ∙ ap (λ (t : Bool). t || p l) x ∙ sym (any-snoc p ls l))
-    ∙ sym (any-snoc p (ls ++ l ∷ []) m)
-
--- The marks with the remainder's and the response's are those of all lines.
-module _ (ls : List Line) (l m : Line) (a b d : Marks) where
-  abbrev pub Told : Marks → Marks → Line → Type 0
-  Told x y k = (y .flagged ≡ (x .flagged || isFlagged k)) × (y .unknown ≡ (x .unknown || isUnknown k))
-
-  abbrev pub allLines : List Line
-  allLines = (ls ++ l ∷ []) ++ m ∷ []
-
-  pub marks-all :
-      (a .flagged ≡ any isFlagged ls) × (a .unknown ≡ any isUnknown ls)
-      → Told a b l
-      → Told b d m
-      → (d .flagged ≡ any isFlagged allLines) × (d .unknown ≡ any isUnknown allLines)
-  marks-all x y z = (
-    any-ends isFlagged ls l m (a .flagged) (b .flagged) (d .flagged) (x .0) (y .0) (z .0),
-    any-ends isUnknown ls l m (a .unknown) (b .unknown) (d .unknown) (x .1) (y .1) (z .1),
-  )
 
 -- The verdict from the two tests.
 pub verdict-is : (ls : List Line) (f u : Bool) → f ≡ any isFlagged ls → u ≡ any isUnknown ls → cond f 2 (cond u 3 1) ≡ verdictOf ls

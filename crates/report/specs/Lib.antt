@@ -3,6 +3,7 @@ pub mod Scaling
 pub mod Items
 pub mod Report
 pub mod Rows
+pub mod Tally
 pub mod Demand
 pub mod Answer
 pub mod Left

@@ -1,7 +1,6 @@
 // The report of a frame under a supplement, as rows in lent memory.
 use crate::message::message_report;
 use crate::rows::put_report;
-use crate::rows::report_size;
 use catalogue::supplement::check_supplement;
 use frame::header::byte_at;
 use frame::header::header_size;
@@ -52,7 +51,7 @@ fn parts_report(s: &[u8], header: &[u8], body: &[u8], kind: u8, out: &mut [u8]) 
     ensures left { λ r. ⌜ now (out .exit) ≡ outAfter (fitted (length (now (out .entry))) (reportBytes (reportOf (catalogue (now (s .entry))) (record { first = keyByte (now (header .entry)); target = keyTarget (now (header .entry)); body = now (body .entry); kind = kind })))) (now (out .entry)) ⌝ }
 {
     let report = message_report(s, key_byte(header), key_target(header), body, kind);
-    let size = report_size(report);
+    let size = report.size;
     if out.len() < size {
         return Reported::Refused(8, 0);
     }

@@ -3,6 +3,9 @@ use crate::bits::cut_bits;
 use crate::line::Held;
 use crate::line::Line;
 use crate::scaling::form_line;
+use crate::tally::Tally;
+use crate::tally::no_lines;
+use crate::tally::tallied;
 use catalogue::lookup::Layout;
 use catalogue::lookup::find_prn;
 use catalogue::lookup::find_slot;
@@ -21,6 +24,7 @@ ghost use Rattle.report.specs.Bits.{cut};
 ghost use Rattle.report.specs.Scaling.{formLine};
 ghost use Rattle.report.specs.Items.{slotLine, rowLine, rowNext, itemLine, next, itemLines, placeAfter, Inside};
 ghost use Rattle.report.specs.Rows.{holdsNumber, allHold, firstLines};
+ghost use Rattle.report.specs.Tally.{Tallies};
 
 // Where the next item starts: at a bit of the items; nowhere, as an earlier PRN was missing; or past the data.
 pub enum Place {
@@ -112,10 +116,11 @@ fn item_step(s: &[u8], items: &[u8], place: Place, prn: u16) -> Step
     }
 }
 
-// The item lines of a layout, and the place behind the last.
+// The item lines of a layout, the place behind the last, and what they add up to.
 pub struct Shown {
     pub lines: [Held; 16],
     pub place: Place,
+    pub tally: Tally,
 }
 
 // The line of each PRN in the layout's order.
@@ -124,9 +129,11 @@ pub(crate) fn item_lines(s: &[u8], items: &[u8], layout: Layout) -> Shown
     ensures shows { λ r. ⌜ firstLines (layout .count) (r .lines) ≡ itemLines (catalogue (now (s .entry))) (now (items .entry)) (Bit 0) (take (layout .count) (layout .prns)) ⌝ }
     ensures moves { λ r. ⌜ r .place ≡ placeAfter (catalogue (now (s .entry))) (now (items .entry)) (Bit 0) (take (layout .count) (layout .prns)) ⌝ }
     ensures number { λ r. ⌜ allHold (firstLines (layout .count) (r .lines)) × (length (r .lines) ≡ 16) ⌝ }
+    ensures tally { λ r. ⌜ Tallies (r .tally) (firstLines (layout .count) (r .lines)) ⌝ }
 {
     let mut lines = [Held { line: Line::Short }; 16];
     let mut place = Place::Bit(0);
+    let mut tally = no_lines();
     let count = layout.count;
     let prns = layout.prns;
     let mut i: usize = 0;
@@ -135,7 +142,12 @@ pub(crate) fn item_lines(s: &[u8], items: &[u8], layout: Layout) -> Shown
         let line = step.line;
         lines[i] = Held { line };
         place = step.place;
+        tally = tallied(tally, line);
         i += 1;
     }
-    Shown { lines, place }
+    Shown {
+        lines,
+        place,
+        tally,
+    }
 }

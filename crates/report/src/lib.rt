@@ -6,4 +6,5 @@ pub mod line;
 pub mod message;
 pub mod rows;
 pub mod scaling;
+pub mod tally;
 pub mod verdict;

@@ -3,27 +3,33 @@ use crate::items::Place;
 use crate::items::item_lines;
 use crate::line::Held;
 use crate::line::Line;
+use crate::rows::BYTE_ROW;
+use crate::tally::Tally;
+use crate::tally::no_lines;
+use crate::tally::tallied;
 use crate::verdict::verdict_of;
 use catalogue::lookup::Layout;
 use catalogue::lookup::find_layout;
 ghost use mathlib.Core.Path.{_≡_};
 ghost use mathlib.Core.List.{_∷_, [], _++_};
-ghost use Prim.Native.Nat.{_≤_, _<_};
+ghost use Prim.Native.Nat.{_+_, _≤_, _<_};
 ghost use lib.ListN.{length, drop};
 ghost use Rattle.catalogue.specs.Supplement.{Accepted};
 ghost use Rattle.catalogue.specs.Lookup.{catalogue, layoutOf};
 ghost use Rattle.report.specs.Items.{Inside};
 ghost use Rattle.report.specs.Report.{remainderAt, responseLine, layoutSought, groupOf, groupLines, reportOf, linesOf, verdictOf};
-ghost use Rattle.report.specs.Rows.{holdsNumber, allHold, firstLines};
+ghost use Rattle.report.specs.Rows.{holdsNumber, allHold, firstLines, rowsOf};
+ghost use Rattle.report.specs.Tally.{Tallies};
 ghost use Rattle.report.specs.Answer.{shownLines};
 
-// Up to sixteen item lines and their count, the remainder, the response and the verdict.
+// Up to sixteen item lines and their count, the remainder, the response and the verdict; and how long their rows are.
 pub struct Report {
     pub lines: [Held; 16],
     pub count: usize,
     pub remainder: Line,
     pub response: Line,
     pub verdict: u8,
+    pub size: usize,
 }
 
 // What follows the selector.
@@ -70,11 +76,12 @@ fn response_line(kind: u8) -> Line
     }
 }
 
-// Up to sixteen item lines, their count and their remainder.
+// Up to sixteen item lines, their count, their remainder, and what all of them add up to.
 struct Group {
     lines: [Held; 16],
     count: usize,
     remainder: Line,
+    tally: Tally,
 }
 
 // The lines of a layout; without one none, and the remainder says so.
@@ -83,21 +90,27 @@ fn group_of(s: &[u8], items: &[u8], layout: Layout) -> Group
     ensures shows { λ r. ⌜ (firstLines (r .count) (r .lines) ++ r .remainder ∷ []) ≡ groupLines (groupOf (catalogue (now (s .entry))) (now (items .entry)) (layoutOf layout) ∷ []) ⌝ }
     ensures sized { λ r. ⌜ (r .count ≤ 16) × (length (r .lines) ≡ 16) ⌝ }
     ensures number { λ r. ⌜ allHold (firstLines (r .count) (r .lines)) × holdsNumber (r .remainder) ⌝ }
+    ensures tally { λ r. ⌜ Tallies (r .tally) (firstLines (r .count) (r .lines) ++ r .remainder ∷ []) ⌝ }
 {
     if !layout.found {
+        let remainder = Line::Unknown(8);
         return Group {
             lines: [Held { line: Line::Short }; 16],
             count: 0,
-            remainder: Line::Unknown(8),
+            remainder,
+            tally: tallied(no_lines(), remainder),
         };
     }
     let shown = item_lines(s, items, layout);
     let lines = shown.lines;
     let place = shown.place;
+    let tally = shown.tally;
+    let remainder = remainder_line(items, place);
     Group {
         lines,
         count: layout.count,
-        remainder: remainder_line(items, place),
+        remainder,
+        tally: tallied(tally, remainder),
     }
 }
 
@@ -108,6 +121,7 @@ pub(crate) fn message_report(s: &[u8], first: u8, target: u8, body: &[u8], kind:
     ensures judged { λ r. ⌜ r .verdict ≡ verdictOf (shownLines r) ⌝ }
     ensures sized { λ r. ⌜ (r .count ≤ 16) × (length (r .lines) ≡ 16) ⌝ }
     ensures number { λ r. ⌜ allHold (shownLines r) ⌝ }
+    ensures size { λ r. ⌜ r .size ≡ length (rowsOf (shownLines r)) + 2 ⌝ }
 {
     let layout = sought(s, first, target, body);
     let group = group_of(s, items_of(body), layout);
@@ -115,11 +129,14 @@ pub(crate) fn message_report(s: &[u8], first: u8, target: u8, body: &[u8], kind:
     let count = group.count;
     let remainder = group.remainder;
     let response = response_line(kind);
+    let tally = group.tally;
+    let all = tallied(tally, response);
     Report {
         lines,
         count,
         remainder,
         response,
-        verdict: verdict_of(lines, count, remainder, response),
+        verdict: verdict_of(all),
+        size: all.size + BYTE_ROW,
     }
 }

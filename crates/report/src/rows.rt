@@ -21,7 +21,7 @@ const DOUBLE_ROW: usize = 9;
 
 const CODE_ROW: usize = 5;
 
-const BYTE_ROW: usize = 2;
+pub(crate) const BYTE_ROW: usize = 2;
 
 const BARE_ROW: usize = 1;
 
@@ -142,33 +142,6 @@ pub(crate) fn put_lines(lines: [Held; 16], count: usize, out: &mut [u8], at: usi
         i += 1;
     }
     end
-}
-
-// How long the rows of the first lines of an array are.
-fn lines_size(lines: [Held; 16], count: usize) -> usize
-    requires { ⌜ (count ≤ 16) × (length lines ≡ 16) ⌝ }
-    ensures { λ r. ⌜ r ≡ length (rowsOf (firstLines count lines)) ⌝ }
-{
-    let mut size: usize = 0;
-    let mut i: usize = 0;
-    while i < count {
-        let h = lines[i];
-        let line = h.line;
-        size += row_size(line);
-        i += 1;
-    }
-    size
-}
-
-// How long the rows of a report are, the verdict's with them.
-pub(crate) fn report_size(report: Report) -> usize
-    requires { ⌜ (report .count ≤ 16) × (length (report .lines) ≡ 16) ⌝ }
-    ensures { λ r. ⌜ r ≡ length (rowsOf (shownLines report)) + 2 ⌝ }
-{
-    let lines = report.lines;
-    let remainder = report.remainder;
-    let response = report.response;
-    lines_size(lines, report.count) + row_size(remainder) + row_size(response) + BYTE_ROW
 }
 
 // The rows of a report at the start of lent memory.

@@ -6,7 +6,7 @@ use native.Mathlib.Omega.{arith}
 use lib.ListN.{length}
 use Rattle.frame.specs.Frame.{placed}
 use Rattle.catalogue.specs.Lookup.{catalogue}
-use Rattle.report.specs.Report.{keyByte, keyTarget, Message, reportOf, linesOf}
+use Rattle.report.specs.Report.{keyByte, keyTarget, reportOf, linesOf}
 use Rattle.report.specs.Rows.{rowsOf, reportBytes}
 use Rattle.report.specs.Answer.{shownLines, shown}
 use Rattle.report.proofs.AnswerLaws.{rows-told, verdict-length, too-long, fits}
@@ -23,9 +23,6 @@ key-target-requires c κs = search needs
 message-report-requires : tie.Need-message-report-requires
 message-report-requires c κs = search needs
 
-report-size-requires : tie.Need-report-size-requires
-report-size-requires c κs = search needs
-
 -- the rows that are asked for
 abbrev asked : tie.After-message-report → List ℕ
 asked c =
@@ -38,11 +35,14 @@ told c =
     ∙ (λ i. linesOf (reportOf (catalogue (c .before .before .before .before .before .before .before .args .s .now)) (record { first = c .before .before .key-byte .ensures i; target = c .before .key-target .ensures i; body = c .before .before .before .before .before .before .before .args .body .now; kind = c .before .before .before .before .before .before .before .args .kind }))))
     (c .message-report .ensures .1 .0)
 
-size : (c : tie.After-report-size) → c .report-size .result ≡ length (asked (c .before))
-size c = c .report-size .ensures ∙ sym (verdict-length (rowsOf (shownLines (c .before .message-report .result))) (c .before .message-report .result .verdict)) ∙ ap length (told (c .before))
+size : (c : tie.After-message-report) → c .message-report .result .size ≡ length (asked c)
+size c =
+    c .message-report .ensures .1 .1 .1 .1
+    ∙ sym (verdict-length (rowsOf (shownLines (c .message-report .result))) (c .message-report .result .verdict))
+    ∙ ap length (told c)
 
 returns : tie.Need-returns
-returns c = too-long (asked (c .before .before)) (c .before .before .before .before .before .before .before .before .before .args .out .now) (omega (arith, size (c .before), c .if1 .taken))
+returns c = too-long (asked (c .before)) (c .before .before .before .before .before .before .before .before .args .out .now) (omega (arith, size (c .before), c .if1 .taken))
 
 put-report-requires : tie.Need-put-report-requires
 put-report-requires c κs = search needs
@@ -52,8 +52,9 @@ same-length c = search needs
 
 returns-2 : tie.Need-returns-2
 returns-2 c =
-    let h = fits (asked (c .before .before .before .before .before .before)) (c .before .before .before .before .before .before .before .before .before .before .before .before .before .args .out .now) (omega (arith, size (c .before .before .before .before .before), c .before .before .before .before .if1 .left)) in
-    (ap shown (size (c .before .before .before .before .before)) ∙ h .0, c .before .before .put-report .ensures ∙ ap (placed (c .before .before .before .before .before .before .before .before .before .before .before .before .before .args .out .now) 0) (told (c .before .before .before .before .before .before)) ∙ h .1)
+    let at = c .before .before .before .before .before in
+    let h = fits (asked at) (c .before .before .before .before .before .before .before .before .before .before .before .before .args .out .now) (omega (arith, size at, c .before .before .before .before .if1 .left)) in
+    (ap shown (size at) ∙ h .0, c .before .before .put-report .ensures ∙ ap (placed (c .before .before .before .before .before .before .before .before .before .before .before .before .args .out .now) 0) (told at) ∙ h .1)
 
 pub parts-report-spec : {M : Type 1} → statement M
 parts-report-spec =
@@ -62,7 +63,6 @@ parts-report-spec =
     key-byte-requires
     key-target-requires
     message-report-requires
-    report-size-requires
     returns
     put-report-requires
     same-length

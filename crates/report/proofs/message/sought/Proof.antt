@@ -1,7 +1,6 @@
 -- With data the first byte is the selector, without it is absent.
 use mathlib.Core.Path.{_≡_, sym, ap, _∙_, subst}
 use Prim.Native.Nat.{_≤_}
-use native.Mathlib.Omega.{arith}
 use lib.ListN.{length, getD}
 use Rattle.catalogue.specs.Supplement.{recordWith}
 use Rattle.catalogue.specs.Lookup.{layoutKey, catalogue, layoutOf}
