@@ -233,3 +233,17 @@ holds-ends ls l m h =
     let last = holds-append (ls ++ l ∷ []) (m ∷ []) h in
     let front = holds-append ls (l ∷ []) (last .0) in
     (front .0, front .1 .0, last .1 .0)
+
+-- Rows put from the start of lent memory, and the place behind them.
+pub record Put (out₀ rows out : List ℕ) (end : ℕ) : Type 0 where
+  pub bytes : out ≡ placed out₀ 0 rows
+  pub behind : end ≡ 0 + length rows
+
+module _ (out₀ rows : List ℕ) {out : List ℕ} {end : ℕ} (p : Put out₀ rows out end) where
+  -- what has room behind them in lent memory has it still
+  pub room-behind : (n : ℕ) → length rows + n ≤ length out₀ → end + n ≤ length out
+  room-behind n h = omega (arith, p .behind, ap length (p .bytes) ∙ length-placed out₀ 0 rows (omega arith))
+
+  -- one run more
+  pub put-next : (u : List ℕ) {out′ : List ℕ} {end′ : ℕ} → out′ ≡ placed out end u → end′ ≡ end + length u → length rows ≤ length out₀ → Put out₀ (rows ++ u) out′ end′
+  put-next u e f h = record { bytes = joined out₀ 0 rows u (p .bytes) e (p .behind) (omega arith); behind = omega (arith, f, p .behind, length-append rows u) }
