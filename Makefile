@@ -1,4 +1,4 @@
-# The library, its checks and its demonstration. Everything that is made stands in build/ and target/.
+# The library, the host tool, their checks and a demonstration. Everything that is made stands in build/ and target/.
 
 ARCHIVE := build/librakhubole.a
 PEER := build/peer/release
@@ -12,9 +12,14 @@ SEED := 1
 # Document 003 as text; where it is not at hand the tables are taken as committed.
 SOURCE := ../shared/003_c37128ede7d9c935.txt
 
-.PHONY: all archive demo test checks tables tables-check peer peer-tests vectors random demo-test clean
+TOOL := build/rakhubole
+TOOL_SOURCES := $(wildcard host/*.c)
+TOOL_HEADERS := $(wildcard host/*.h) include/rakhubole.h
+TOOL_CFLAGS := $(CFLAGS) -D_XOPEN_SOURCE=700
 
-all: archive
+.PHONY: all archive demo test checks tables tables-check peer peer-tests vectors random tool-test clean
+
+all: $(TOOL)
 
 # What a C program links, with include/rakhubole.h.
 archive:
@@ -22,17 +27,21 @@ archive:
 	rt staticlib c_api
 	cp target/staticlib/libc_api.a $(ARCHIVE)
 
-build/demo: archive host/demo.c include/rakhubole.h
-	$(CC) $(CFLAGS) host/demo.c $(ARCHIVE) -o $@
+# The host tool, over the header and the archive alone.
+$(TOOL): archive $(TOOL_SOURCES) $(TOOL_HEADERS)
+	$(CC) $(TOOL_CFLAGS) $(TOOL_SOURCES) $(ARCHIVE) -o $@
 
-demo: build/demo
-	build/demo
+# The tool on the samples.
+demo: $(TOOL)
+	$(TOOL) check samples/van.sup
+	$(TOOL) show samples/van.sup
+	$(TOOL) frame $$($(TOOL) send 631AF1 - 1234)
 
 # Everything: the checks below, then the proofs, the must-fail edits and the programs, from nothing.
 test:
 	bash .ci/run
 
-checks: tables-check peer-tests vectors random demo-test
+checks: tables-check peer-tests vectors random tool-test
 
 # The SAE tables of the code, of the definitions and of docs/SAE-TABLES.md, from document 003.
 tables:
@@ -69,9 +78,8 @@ random: peer
 	$(PEER)/compare report $(RANDOM_REPORTS) $(SEED)
 	$(PEER)/compare promise $(RANDOM_PROMISES) $(SEED)
 
-demo-test: build/demo
-	build/demo > build/demo.out
-	cmp build/demo.out host/demo.expected
+tool-test: $(TOOL)
+	host/tests/run.py $(TOOL) samples host/tests/*.cases
 
 clean:
 	rm -rf build target

@@ -1,0 +1,94 @@
+#include "help.h"
+
+#include <string.h>
+
+struct help {
+    const char *command, *operands, *summary, *text;
+};
+
+static const struct help helps[] = {
+    {"check", "SUPPLEMENT",
+     "test a supplement and say what it holds",
+     "Says whether the library accepts the file, and how many bytes, SLOTs by form,\n"
+     "PRNs and layouts it has; or the refusal in words with its number, and number,\n"
+     "place, kind and bytes of the first record with a fault, with exit status 1.\n"
+     "The empty file is accepted: the SAE tables alone.\n"},
+    {"compile", "TEXT SUPPLEMENT",
+     "make a supplement from its text",
+     "Reads TEXT, a record a line, and writes SUPPLEMENT, if the library accepts it.\n"
+     "Bad text and refused records are named with their line; then no file is\n"
+     "written, and what stood at SUPPLEMENT stays. TEXT may be - for the standard\n"
+     "input.\n"
+     "\n"
+     "  slot UNM-08-300 multiplier 1 divisor 10 offset -400 raw 0 to 250\n"
+     "  prn F001 UNM-08-300\n"
+     "  layout header 08 6B selector 41 prns 1025 F001\n"
+     "  layout header 31 no selector no prns\n"
+     "  # comment\n"
+     "\n"
+     "slot    a SLOT's form, width and number; its value is (raw x multiplier +\n"
+     "        offset) / divisor, for raw numbers within the limits. The forms are\n"
+     "        UNM, SNM, SED, BMP, ASC, BCD, BMM, SFP and PKT. Numbers are decimal;\n"
+     "        raw limits of SNM may be negative.\n"
+     "prn     a PRN in four hexadecimal digits, and its SLOT.\n"
+     "layout  the header in hexadecimal: with bit H = 0 the first byte, its priority\n"
+     "        bits zero, and the target; with H = 1 the whole first byte alone. Then\n"
+     "        the first data byte, if there are data, and up to sixteen PRNs of the\n"
+     "        items behind it.\n"},
+    {"show", "SUPPLEMENT",
+     "show a supplement as text",
+     "Writes the supplement as text that compile turns into the same bytes, with the\n"
+     "names of PRNs as comments; see 'rakhubole help compile'. What the library\n"
+     "refuses is not shown: the message says why, and the exit status is 1.\n"},
+    {"frame", "BYTE.. [/ BYTE..]",
+     "show the parts of a frame",
+     "Shows header, data, check byte and response of a frame, or why the library\n"
+     "refuses it, with exit status 1. The response stands behind a slash.\n"
+     "\n"
+     "  rakhubole frame 48 6B 10 41 65 80 29\n"
+     "  rakhubole frame 631AF139 / 1234AC\n"},
+    {"send", "HEADER DATA [RESPONSE]",
+     "make the bytes of a frame",
+     "Writes the bytes to send, check bytes included, the response behind a slash,\n"
+     "as report and frame read them; or says why the library refuses the parts, with\n"
+     "exit status 1. The parts are given without check bytes; - or \"\" is none.\n"
+     "\n"
+     "  rakhubole send 486B10 416580\n"
+     "  rakhubole send \"63 1A F1\" - 1234\n"}};
+
+enum { HELPS = sizeof helps / sizeof *helps };
+
+static const struct help *find_help(const char *command)
+{
+    for (size_t i = 0; i < HELPS; i++)
+        if (strcmp(helps[i].command, command) == 0)
+            return &helps[i];
+    return NULL;
+}
+
+const char *help_operands(const char *command)
+{
+    const struct help *help = find_help(command);
+    return help ? help->operands : NULL;
+}
+
+void put_overview(FILE *file)
+{
+    fputs("Reads SAE J1850 frames and shows what they say, by the SAE tables and a\n"
+          "supplement of records from makers.\n\n", file);
+    for (size_t i = 0; i < HELPS; i++)
+        fprintf(file, "  rakhubole %s %s\n      %s\n", helps[i].command, helps[i].operands,
+                helps[i].summary);
+    fputs("  rakhubole help [COMMAND]\n      say more\n\n"
+          "Exit status: 0; 1 if what was given is refused, or with --strict if a frame is\n"
+          "not Clear; 2 for wrong arguments and for files that cannot be read or written.\n",
+          file);
+}
+
+bool put_help(const char *command)
+{
+    const struct help *help = find_help(command);
+    if (help)
+        printf("rakhubole %s %s\n\n%s", command, help->operands, help->text);
+    return help != NULL;
+}

@@ -1,0 +1,83 @@
+/* rakhubole: the host tool over the library. */
+#include "arguments.h"
+#include "commands.h"
+#include "help.h"
+#include "message.h"
+
+#include <string.h>
+
+struct command {
+    const char *name;
+    int (*run)(const struct arguments *arguments);
+    size_t least, most; /* operands */
+    bool has_options;
+};
+
+static const struct command commands[] = {
+    {"check", command_check, 1, 1, false},
+    {"compile", command_compile, 2, 2, false},  {"show", command_show, 1, 1, false},
+    {"frame", command_frame, 1, (size_t)-1, false}, {"send", command_send, 2, 3, false}};
+
+static const struct command *find_command(const char *name)
+{
+    for (size_t i = 0; i < sizeof commands / sizeof *commands; i++)
+        if (strcmp(commands[i].name, name) == 0)
+            return &commands[i];
+    return NULL;
+}
+
+static int complain_of_use(const struct command *command, const char *fault, const char *what)
+{
+    complain("%s%s; use: rakhubole %s %s, or see 'rakhubole help %s'", fault, what, command->name,
+             help_operands(command->name), command->name);
+    return STATUS_USAGE;
+}
+
+static int run_command(const struct command *command, int count, char **values)
+{
+    struct arguments arguments;
+    const char *strange = arguments_read(&arguments, count, values);
+    if (strange)
+        return complain_of_use(command, "there is no option ", strange);
+    if (arguments.help)
+        return put_help(command->name) ? flush_output() : STATUS_USAGE;
+    if (!command->has_options && (arguments.json || arguments.strict))
+        return complain_of_use(command, "only report takes --json and --strict", "");
+    if (arguments.count < command->least)
+        return complain_of_use(command, "something is missing", "");
+    if (arguments.count > command->most)
+        return complain_of_use(command, "too much is given: ", arguments.operands[command->most]);
+    int status = command->run(&arguments);
+    if (status != STATUS_USAGE && flush_output() != STATUS_DONE)
+        status = STATUS_USAGE;
+    return status;
+}
+
+static int complain_of_command(const char *name)
+{
+    complain("there is no command '%s': use check, compile, show, frame, send or help",
+             name);
+    return STATUS_USAGE;
+}
+
+static int run_help(int count, char **values)
+{
+    if (count == 0)
+        put_overview(stdout);
+    else if (!put_help(values[0]))
+        return complain_of_command(values[0]);
+    return flush_output();
+}
+
+int main(int count, char **values)
+{
+    if (count < 2) {
+        put_overview(stderr);
+        return STATUS_USAGE;
+    }
+    const char *name = values[1];
+    if (strcmp(name, "help") == 0 || strcmp(name, "--help") == 0 || strcmp(name, "-h") == 0)
+        return run_help(count - 2, values + 2);
+    const struct command *command = find_command(name);
+    return command ? run_command(command, count - 2, values + 2) : complain_of_command(name);
+}

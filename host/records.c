@@ -1,0 +1,96 @@
+#include "records.h"
+
+#include "words.h"
+
+#include <stdio.h>
+#include <string.h>
+
+size_t record_size(uint8_t kind)
+{
+    switch (kind) {
+    case RECORD_SLOT: return SLOT_SIZE;
+    case RECORD_PRN: return PRN_SIZE;
+    case RECORD_LAYOUT: return LAYOUT_SIZE;
+    default: return 0;
+    }
+}
+
+size_t record_key_size(uint8_t kind)
+{
+    switch (kind) {
+    case RECORD_SLOT: return SLOT_MULTIPLIER;
+    case RECORD_PRN: return PRN_SLOT_KEY;
+    default: return LAYOUT_COUNT;
+    }
+}
+
+bool record_next(const struct supplement *supplement, struct record *record)
+{
+    size_t place = record->number ? record->place + record->length : 0;
+    if (place >= supplement->length)
+        return false;
+    size_t rest = supplement->length - place;
+    size_t size = record_size(supplement->bytes[place]);
+    record->number++;
+    record->place = place;
+    record->bytes = supplement->bytes + place;
+    record->length = size == 0 ? 1 : size < rest ? size : rest;
+    return true;
+}
+
+bool record_find(const struct supplement *supplement, const uint8_t *start, size_t length,
+                 struct record *record)
+{
+    record->number = 0;
+    while (record_next(supplement, record))
+        if (record->length >= length && memcmp(record->bytes, start, length) == 0)
+            return true;
+    return false;
+}
+
+uint16_t number16(const uint8_t *bytes)
+{
+    return (uint16_t)(bytes[0] << 8 | bytes[1]);
+}
+
+uint32_t number32(const uint8_t *bytes)
+{
+    return (uint32_t)number16(bytes) << 16 | number16(bytes + 2);
+}
+
+int32_t signed32(const uint8_t *bytes)
+{
+    uint32_t pattern = number32(bytes);
+    return pattern <= INT32_MAX ? (int32_t)pattern : -(int32_t)(UINT32_MAX - pattern) - 1;
+}
+
+struct slot_key slot_key_of(const struct record *record)
+{
+    const uint8_t *at =
+        record->bytes + (record->bytes[0] == RECORD_PRN ? PRN_SLOT_KEY : SLOT_KEY);
+    return (struct slot_key){at[0], at[1], number16(at + 2)};
+}
+
+uint16_t layout_prn(const struct record *record, size_t i)
+{
+    return number16(record->bytes + LAYOUT_PRN_LIST + 2 * i);
+}
+
+void layout_key_text(const uint8_t key[4], char text[LAYOUT_KEY_SIZE])
+{
+    char target[sizeof " FF"] = "", selector[sizeof " selector FF"] = " no selector";
+    if ((key[0] & BIT_H) == 0)
+        snprintf(target, sizeof target, " %02X", key[1]);
+    if (key[2] != 0)
+        snprintf(selector, sizeof selector, " selector %02X", key[3]);
+    snprintf(text, LAYOUT_KEY_SIZE, "header %02X%s%s", key[0], target, selector);
+}
+
+void slot_name(struct slot_key key, char name[SLOT_NAME_SIZE])
+{
+    const char *form = form_name(key.form);
+    if (form)
+        snprintf(name, SLOT_NAME_SIZE, "%s-%02u-%u", form, key.width, key.number);
+    else
+        snprintf(name, SLOT_NAME_SIZE, "form %u-%02u-%u", key.form, key.width, key.number);
+}
