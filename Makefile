@@ -35,6 +35,7 @@ $(TOOL): archive $(TOOL_SOURCES) $(TOOL_HEADERS)
 demo: $(TOOL)
 	$(TOOL) check samples/van.sup
 	$(TOOL) show samples/van.sup
+	$(TOOL) report samples/van.sup samples/van.log
 	$(TOOL) frame $$($(TOOL) send 631AF1 - 1234)
 
 # Everything: the checks below, then the proofs, the must-fail edits and the programs, from nothing.
@@ -78,8 +79,14 @@ random: peer
 	$(PEER)/compare report $(RANDOM_REPORTS) $(SEED)
 	$(PEER)/compare promise $(RANDOM_PROMISES) $(SEED)
 
-tool-test: $(TOOL)
+# The tool over a library that gives odd answers, to see what it does with them.
+$(TOOL)-odd: host/tests/odd_library.c $(TOOL_SOURCES) $(TOOL_HEADERS)
+	@mkdir -p build
+	$(CC) $(TOOL_CFLAGS) $(TOOL_SOURCES) host/tests/odd_library.c -o $@
+
+tool-test: $(TOOL) $(TOOL)-odd
 	host/tests/run.py $(TOOL) samples host/tests/*.cases
+	host/tests/properties.py $(TOOL) samples
 
 clean:
 	rm -rf build target

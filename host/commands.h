@@ -4,6 +4,7 @@
 
 #include "arguments.h"
 
+int command_report(const struct arguments *arguments);
 int command_check(const struct arguments *arguments);
 int command_compile(const struct arguments *arguments);
 int command_show(const struct arguments *arguments);

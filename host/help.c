@@ -7,6 +7,46 @@ struct help {
 };
 
 static const struct help helps[] = {
+    {"report", "[--json] [--strict] SUPPLEMENT LOG",
+     "read a log of frames and show what each one says",
+     "Shows for each frame of LOG a table of PRN, name and value, what is left over,\n"
+     "the response, and the verdict:\n"
+     "\n"
+     "  Clear    every line has a value and no bit is left over\n"
+     "  Flagged  a line is Invalid or Short, or bits are left over\n"
+     "  Unknown  otherwise, if a line could not be decoded\n"
+     "\n"
+     "On a terminal Clear is green, Flagged red and Unknown grey, unless NO_COLOR is\n"
+     "set. A frame that the library refuses is shown with the reason, and the log\n"
+     "goes on. Lines, values, verdicts and refusals are the library's. Names, units\n"
+     "and the texts of states and bits are document 003's (SAE J2178-2): they are\n"
+     "shown, not proved. A PRN of the supplement has none.\n"
+     "\n"
+     "LOG is text, one frame a line. A file is read to its end first, and nothing is\n"
+     "shown if a line is bad; - is the standard input, shown line by line as it\n"
+     "comes.\n"
+     "\n"
+     "  48 6B 10 41 65 80 29      bytes in hexadecimal, the check byte included\n"
+     "  486B1041658029            the same without blanks\n"
+     "  63 1A F1 39 / 12 34 AC    the response behind a slash\n"
+     "  # comment                 to the end of the line; blank lines are skipped\n"
+     "\n"
+     "Lines of ELM327-class adapters are understood too. Turn headers on (ATH1), so\n"
+     "that header and check byte are there. If the adapter prints the bytes of a\n"
+     "response behind the check byte, put the slash in. Prompts (>), carriage\n"
+     "returns and zero bytes do no harm. What the adapter says besides frames, such\n"
+     "as OK, NO DATA or SEARCHING..., and short commands behind a prompt, such as\n"
+     ">010C, are passed over and named. What it marks or reports as damaged or lost,\n"
+     "as in\n"
+     "\n"
+     "  48 6B 10 41 65 <DATA ERROR\n"
+     "\n"
+     "is shown and not decoded. Any other line is a fault.\n"
+     "\n"
+     "  --json    one object a line for each frame: of every row its kind, bytes and\n"
+     "            code, and each double as its shortest decimal and as its 64 bits.\n"
+     "            What is passed over is said on the error output.\n"
+     "  --strict  exit status 1 unless every frame is Clear and none is damaged\n"},
     {"check", "SUPPLEMENT",
      "test a supplement and say what it holds",
      "Says whether the library accepts the file, and how many bytes, SLOTs by form,\n"

@@ -14,7 +14,7 @@ struct command {
 };
 
 static const struct command commands[] = {
-    {"check", command_check, 1, 1, false},
+    {"report", command_report, 2, 2, true},     {"check", command_check, 1, 1, false},
     {"compile", command_compile, 2, 2, false},  {"show", command_show, 1, 1, false},
     {"frame", command_frame, 1, (size_t)-1, false}, {"send", command_send, 2, 3, false}};
 
@@ -55,7 +55,7 @@ static int run_command(const struct command *command, int count, char **values)
 
 static int complain_of_command(const char *name)
 {
-    complain("there is no command '%s': use check, compile, show, frame, send or help",
+    complain("there is no command '%s': use report, check, compile, show, frame, send or help",
              name);
     return STATUS_USAGE;
 }

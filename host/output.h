@@ -1,0 +1,24 @@
+/* How reports are shown: as tables or as JSON. */
+#ifndef OUTPUT_H
+#define OUTPUT_H
+
+#include "log.h"
+#include "reading.h"
+
+/* How many lines of a log were what. */
+struct tally {
+    size_t clear, flagged, unknown, refused, damaged, passed;
+};
+
+struct output {
+    void (*reading)(const struct entry *entry, const struct reading *reading);
+    void (*refused)(const struct entry *entry, unsigned refusal);
+    void (*damaged)(const struct entry *entry);
+    void (*passed)(const struct entry *entry);
+    void (*end)(const struct tally *tally);
+};
+
+extern const struct output table_output;
+extern const struct output json_output;
+
+#endif

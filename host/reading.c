@@ -1,0 +1,81 @@
+#include "reading.h"
+
+#include <string.h>
+
+/* The bytes of a row's body by its kind. */
+static size_t body_size(uint8_t kind)
+{
+    switch (kind) {
+    case RAKHUBOLE_ROW_NUMBER: return 8;
+    case RAKHUBOLE_ROW_STATE:
+    case RAKHUBOLE_ROW_BITS:
+    case RAKHUBOLE_ROW_TEXT:
+    case RAKHUBOLE_ROW_DIGITS:
+    case RAKHUBOLE_ROW_INVALID: return 4;
+    case RAKHUBOLE_ROW_SHORT: return 0;
+    default: return 1;
+    }
+}
+
+/* Takes the row at the start of the bytes apart. */
+static bool take_row(struct row *row, const uint8_t *bytes, size_t rest)
+{
+    if (rest == 0 || bytes[0] < RAKHUBOLE_ROW_NUMBER || bytes[0] > RAKHUBOLE_ROW_VERDICT)
+        return false;
+    *row = (struct row){bytes[0], 0, bytes, 1 + body_size(bytes[0])};
+    if (row->length > rest)
+        return false;
+    for (size_t i = 1; i < row->length; i++)
+        row->body = row->body << 8 | bytes[i];
+    return true;
+}
+
+/* The rows in their order: items, remainder, response, verdict. */
+static bool take_rows(struct reading *reading, size_t length)
+{
+    enum { LAST_ROWS = 3 };
+    struct row rows[LAYOUT_PRNS + LAST_ROWS];
+    size_t count = 0;
+    for (size_t place = 0; place < length; place += rows[count++].length)
+        if (count == LAYOUT_PRNS + LAST_ROWS ||
+            !take_row(&rows[count], reading->rows + place, length - place))
+            return false;
+    if (count < LAST_ROWS)
+        return false;
+    reading->count = count - LAST_ROWS;
+    memcpy(reading->items, rows, reading->count * sizeof *rows);
+    reading->remainder = rows[count - 3];
+    reading->response = rows[count - 2];
+    reading->verdict = rows[count - 1];
+    return reading->verdict.kind == RAKHUBOLE_ROW_VERDICT;
+}
+
+/* Names the lines by the layout, if it has as many PRNs as there are lines. */
+static void name_lines(struct reading *reading, const struct supplement *supplement,
+                       const struct runs *runs)
+{
+    uint64_t answer = rakhubole_j1850_read(runs->first.at, runs->first.count, runs->response.at,
+                                           runs->response.count);
+    size_t header = RAKHUBOLE_READ_HEADER(answer);
+    reading->response_length = RAKHUBOLE_READ_RESPONSE(answer);
+    reading->layout = layout_sought(supplement, runs->first.at, header, runs->first.at + header,
+                                    RAKHUBOLE_READ_DATA(answer));
+    reading->is_named = reading->layout.count == reading->count;
+    for (size_t i = 0; reading->is_named && i < reading->count; i++)
+        reading->labels[i] = label_of(supplement, reading->layout.prns[i]);
+}
+
+int reading_make(struct reading *reading, const struct supplement *supplement,
+                 const struct runs *runs)
+{
+    uint64_t answer = rakhubole_j1850_report(
+        supplement->bytes, supplement->length, runs->first.at, runs->first.count,
+        runs->response.at, runs->response.count, reading->rows, sizeof reading->rows);
+    if (RAKHUBOLE_REFUSAL(answer) != 0)
+        return (int)RAKHUBOLE_REFUSAL(answer);
+    size_t length = RAKHUBOLE_ROWS_LENGTH(answer);
+    if (length > sizeof reading->rows || !take_rows(reading, length))
+        return -1;
+    name_lines(reading, supplement, runs);
+    return 0;
+}

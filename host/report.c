@@ -1,0 +1,149 @@
+/* rakhubole report: the reports of a log's frames under a supplement. */
+#include "commands.h"
+#include "files.h"
+#include "load.h"
+#include "log.h"
+#include "message.h"
+#include "output.h"
+#include "progress.h"
+#include "reading.h"
+#include "words.h"
+
+#include <string.h>
+
+struct session {
+    const struct output *output;
+    const struct supplement *supplement;
+    const char *path; /* of the log, as messages name it */
+    struct tally tally;
+};
+
+static int complain_of_line(const struct session *session, const struct entry *entry)
+{
+    enum { SHOWN = 60 };
+    int shown = entry->length < SHOWN ? (int)entry->length : SHOWN;
+    complain("%s line %zu: neither a frame nor a line of an adapter (%s): \"%.*s%s\"",
+             session->path, entry->line, entry->words, shown, entry->text,
+             entry->length > SHOWN ? "..." : "");
+    return STATUS_REFUSED;
+}
+
+static void count_verdict(struct tally *tally, unsigned verdict)
+{
+    tally->clear += verdict == RAKHUBOLE_CLEAR;
+    tally->flagged += verdict == RAKHUBOLE_FLAGGED;
+    tally->unknown += verdict != RAKHUBOLE_CLEAR && verdict != RAKHUBOLE_FLAGGED;
+}
+
+static int show_frame(struct session *session, const struct entry *entry)
+{
+    struct reading reading;
+    int refusal = reading_make(&reading, session->supplement, &entry->runs);
+    if (refusal < 0) {
+        complain("%s line %zu: the rows of the library are not as its papers say", session->path,
+                 entry->line);
+        return STATUS_USAGE;
+    }
+    if (refusal > 0) {
+        session->tally.refused++;
+        session->output->refused(entry, (unsigned)refusal);
+    } else {
+        count_verdict(&session->tally, (unsigned)reading.verdict.body);
+        session->output->reading(entry, &reading);
+    }
+    return STATUS_DONE;
+}
+
+/* Shows what a line of the log is. */
+static int show_entry(struct session *session, const struct entry *entry)
+{
+    switch (entry->kind) {
+    case ENTRY_FRAME:
+        return show_frame(session, entry);
+    case ENTRY_DAMAGED:
+        session->tally.damaged++;
+        session->output->damaged(entry);
+        return STATUS_DONE;
+    case ENTRY_PASSED:
+        session->tally.passed++;
+        session->output->passed(entry);
+        return STATUS_DONE;
+    default:
+        return complain_of_line(session, entry);
+    }
+}
+
+/* Whether every line of the log can be read, before anything is shown. */
+static int try_log(const struct session *session, FILE *file)
+{
+    struct lines lines;
+    struct entry entry;
+    lines_start(&lines, file);
+    do
+        log_next(&lines, &entry);
+    while (entry.kind != ENTRY_NONE && entry.kind != ENTRY_FAULT);
+    rewind(file);
+    return entry.kind == ENTRY_FAULT ? complain_of_line(session, &entry) : STATUS_DONE;
+}
+
+/* Shows the log line by line, as it comes. */
+static int show_log(struct session *session, FILE *file, unsigned long long size)
+{
+    struct lines lines;
+    struct entry entry;
+    struct progress progress;
+    int status = STATUS_DONE;
+    lines_start(&lines, file);
+    progress_start(&progress, size);
+    for (;;) {
+        log_next(&lines, &entry);
+        if (entry.kind == ENTRY_NONE)
+            break;
+        progress_step(&progress, entry.line, lines.place);
+        status = show_entry(session, &entry);
+        if (status == STATUS_DONE)
+            status = flush_output();
+        if (status != STATUS_DONE)
+            break;
+    }
+    progress_end(&progress);
+    return status;
+}
+
+static int finish(const struct session *session, bool is_strict)
+{
+    const struct tally *tally = &session->tally;
+    size_t faults = tally->flagged + tally->unknown + tally->refused + tally->damaged;
+    if (tally->clear + faults == 0) {
+        complain("%s: holds no frame", session->path);
+        return STATUS_REFUSED;
+    }
+    session->output->end(tally);
+    return is_strict && faults > 0 ? STATUS_REFUSED : STATUS_DONE;
+}
+
+int command_report(const struct arguments *arguments)
+{
+    const char *path = arguments->operands[1];
+    struct supplement supplement;
+    struct session session = {.output = arguments->json ? &json_output : &table_output,
+                              .supplement = &supplement, .path = shown_path(path)};
+    if (strcmp(arguments->operands[0], "-") == 0 && strcmp(path, "-") == 0) {
+        complain("supplement and log cannot both come from the standard input");
+        return STATUS_USAGE;
+    }
+    int status = supplement_accept(&supplement, arguments->operands[0]);
+    if (status == STATUS_DONE && supplement.length == 0)
+        complain("%s is empty: without layouts every frame is Unknown",
+                 shown_path(arguments->operands[0]));
+    FILE *file = status == STATUS_DONE ? open_to_read(path) : NULL;
+    if (!file)
+        return status != STATUS_DONE ? status : STATUS_USAGE;
+    unsigned long long size = 0;
+    if (file != stdin && is_regular(file, &size))
+        status = try_log(&session, file);
+    if (status == STATUS_DONE)
+        status = show_log(&session, file, size);
+    close_read(file);
+    return status == STATUS_DONE ? finish(&session, arguments->strict) : status;
+}

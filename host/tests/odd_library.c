@@ -1,0 +1,61 @@
+/* Stands for the library in one test: answers that it never gives, so that what
+ * the tool does with them is seen. The first data byte chooses the answer. */
+#include "rakhubole.h"
+
+#include <string.h>
+
+enum { ODD_REFUSAL = 99 };
+
+uint64_t rakhubole_j1850_read(const uint8_t *first, size_t first_length, const uint8_t *response,
+                              size_t response_length)
+{
+    (void)first, (void)response, (void)response_length;
+    return first_length < 5 ? RAKHUBOLE_FIRST_RUN_SHORT : 3 << 8 | (first_length - 4) << 16;
+}
+
+uint64_t rakhubole_j1850_write(const uint8_t *header, size_t header_length, const uint8_t *data,
+                               size_t data_length, const uint8_t *response,
+                               size_t response_length, uint8_t *out, size_t out_length)
+{
+    (void)header, (void)header_length, (void)data, (void)data_length;
+    (void)response, (void)response_length, (void)out, (void)out_length;
+    return ODD_REFUSAL;
+}
+
+/* A supplement that starts with EEh is refused, with a place beyond its end. */
+uint64_t rakhubole_supplement_check(const uint8_t *supplement, size_t supplement_length)
+{
+    return supplement_length && supplement[0] == 0xEE ? ODD_REFUSAL | 5000 << 8 : 0;
+}
+
+struct odd {
+    size_t length, claimed;
+    uint8_t rows[40];
+};
+
+static const struct odd odds[] = {
+    {0, 200, {0}},                                         /* 0: longer than was lent */
+    {7, 7, {0, 9, 0, 10, 0, 11, 1}},                       /* 1: no such kind of row */
+    {4, 4, {9, 0, 1, 0}},                                  /* 2: a row that is cut */
+    {6, 6, {9, 0, 10, 0, 9, 0}},                           /* 3: no verdict */
+    {26, 26, {7, 7, 7, 7, 7, 7, 7, 7, 7, 7, 7, 7, 7, 7, 7, 7, 7, 7, 7, 7, 9, 0, 10, 0, 11, 1}},
+    {4, 4, {10, 0, 11, 1}},                                /* 5: too few rows */
+    {0, 0, {0}},                                           /* 6: no rows */
+    {15, 15, {1, 0x7F, 0xF8, 0, 0, 0, 0, 0, 0, 9, 0, 10, 0, 11, 1}},   /* 7: no number, no PRN */
+    {6, 6, {9, 0, 10, 0, 11, 9}},                          /* 8: no such verdict */
+    {8, 8, {8, 99, 9, 0, 10, 7, 11, 3}},                   /* 9: no such Unknown, no such kind */
+    {16, 16, {6, 0, 0, 0, 1, 2, 0, 0, 0, 2, 9, 0, 10, 0, 11, 2}}};     /* 10: lines without PRN */
+
+uint64_t rakhubole_j1850_report(const uint8_t *supplement, size_t supplement_length,
+                                const uint8_t *first, size_t first_length,
+                                const uint8_t *response, size_t response_length, uint8_t *out,
+                                size_t out_length)
+{
+    (void)supplement, (void)supplement_length, (void)response, (void)response_length;
+    (void)out_length;
+    if (first_length < 5 || first[3] >= sizeof odds / sizeof *odds)
+        return ODD_REFUSAL;
+    const struct odd *odd = &odds[first[3]];
+    memcpy(out, odd->rows, odd->length);
+    return (uint64_t)odd->claimed << 8;
+}

@@ -1,0 +1,192 @@
+#!/usr/bin/env python3
+"""What holds of the tool for more than stored cases.
+
+    properties.py TOOL SAMPLES
+
+Random supplements come back from their text byte for byte; the samples show every kind of line; JSON
+loses nothing, and its numbers are as short as can be; a stream is shown as it comes.
+"""
+import json
+import pathlib
+import random
+import select
+import struct
+import subprocess
+import sys
+import tempfile
+
+SUPPLEMENTS = 300
+NUMBERS = 100
+SEED = 1
+SECONDS = 10
+REFUSALS = set(range(1, 7))
+UNKNOWNS = set(range(1, 9))
+ROW_KINDS = set(range(1, 12))
+VERDICTS = {1, 2, 3}
+FRAME = b"48 6B 10 41 65 80 29\n"
+
+
+def edge(chance, low, high):
+    """A number of the range, often one of its ends."""
+    return chance.choice((low, high, chance.randint(low, high)))
+
+
+def number(value, size):
+    return (value & (1 << 8 * size) - 1).to_bytes(size, "big")
+
+
+def random_slot(chance):
+    form = chance.randint(1, 9)
+    least, most = (-(1 << 31), (1 << 31) - 1) if form == 2 else (0, (1 << 32) - 1)
+    low, high = sorted((edge(chance, least, most), edge(chance, least, most)))
+    return (bytes((1, form, edge(chance, 1, 64))) + number(chance.randint(1000, 65535), 2)
+            + number(edge(chance, 0, 65535), 2) + number(edge(chance, 1, 65535), 2)
+            + number(edge(chance, -(1 << 31), (1 << 31) - 1), 4) + number(low, 4)
+            + number(high, 4))
+
+
+def random_prn(chance):
+    return (b"\2" + number(chance.randint(0xF000, 0xF7FF), 2)
+            + bytes((chance.randint(1, 9), edge(chance, 1, 64))) + number(edge(chance, 0, 65535), 2))
+
+
+def random_layout(chance):
+    has_target, count = chance.random() < 0.5, edge(chance, 0, 16)
+    first = chance.randrange(256) & 0x0F if has_target else chance.randrange(256) | 0x10
+    selector = bytes((1, chance.randrange(256))) if chance.random() < 0.7 else bytes(2)
+    prns = b"".join(number(chance.randrange(65536), 2) for _ in range(count))
+    return (bytes((3, first, chance.randrange(256) if has_target else 0)) + selector
+            + bytes((count,)) + prns.ljust(32, b"\0"))
+
+
+def random_supplement(chance):
+    """Records with different keys, of all kinds."""
+    records = {}
+    for _ in range(chance.randrange(40)):
+        record = chance.choice((random_slot, random_prn, random_layout))(chance)
+        records.setdefault(record[:3 if record[0] == 2 else 5], record)
+    return b"".join(records.values())
+
+
+def test_round_trips(tool, _samples):
+    """Each accepted supplement is the same after show and compile."""
+    chance, accepted = random.Random(SEED), 0
+    with tempfile.TemporaryDirectory() as name:
+        one, text, other = (pathlib.Path(name) / n for n in ("one", "text", "other"))
+        for _ in range(SUPPLEMENTS):
+            one.write_bytes(random_supplement(chance))
+            with open(text, "wb") as file:
+                shown = subprocess.run([tool, "show", one], stdout=file, stderr=subprocess.DEVNULL)
+            if shown.returncode:
+                continue
+            accepted += 1
+            subprocess.run([tool, "compile", text, other], stdout=subprocess.DEVNULL)
+            if not other.is_file() or other.read_bytes() != one.read_bytes():
+                yield f"a supplement is changed by its text: {one.read_bytes().hex()}"
+            other.unlink(missing_ok=True)
+    if accepted < SUPPLEMENTS * 9 // 10:
+        yield f"only {accepted} of {SUPPLEMENTS} supplements are accepted"
+
+
+def objects(tool, supplement, log, **hooks):
+    run = subprocess.run([tool, "report", "--json", supplement, log], stdout=subprocess.PIPE,
+                         stderr=subprocess.DEVNULL, check=True)
+    return [json.loads(line, **hooks) for line in run.stdout.decode("ascii").splitlines()]
+
+
+def rows_of(report):
+    return [*report["items"], report["remainder"], report["answer"], report["verdict"]]
+
+
+def test_samples(tool, samples):
+    """The samples show every refusal of the reader, row kind, Unknown number and verdict."""
+    reports = objects(tool, samples / "van.sup", samples / "van.log")
+    rows = [row for r in reports if r["refusal"] == 0 for row in rows_of(r)]
+    for what, wanted, found in (
+            ("refusals", REFUSALS, {r["refusal"] for r in reports if r["refusal"]}),
+            ("kinds of rows", ROW_KINDS, {r["kind"] for r in rows}),
+            ("Unknown numbers", UNKNOWNS, {r["number"] for r in rows if r["kind"] == 8}),
+            ("response kinds", {0, 1, 2}, {r["number"] for r in rows if r["kind"] == 10}),
+            ("verdicts", VERDICTS, {r["number"] for r in rows if r["kind"] == 11})):
+        if wanted != found:
+            yield f"of the {what}, the samples do not show {sorted(wanted - found)}"
+
+
+def test_json(tool, samples):
+    """Each row's fields say what its bytes say, the double to the last bit."""
+    for report in objects(tool, samples / "van.sup", samples / "van.log"):
+        for row in rows_of(report) if report["refusal"] == 0 else ():
+            body = bytes.fromhex(row["row"])[1:]
+            if row["row"][:2] != f"{row['kind']:02X}":
+                yield f"the kind is lost: {row}"
+            if row["kind"] == 1 and struct.pack(">d", row["value"]) != body:
+                yield f"the double is changed: {row}"
+            if row["kind"] == 1 and row["double"] != body.hex().upper():
+                yield f"the bits of the double are changed: {row}"
+            if row["kind"] != 1 and row["kind"] != 7:
+                if row.get("code", row.get("number")) != int.from_bytes(body, "big"):
+                    yield f"the code is changed: {row}"
+
+
+def digits(text):
+    """The digits of a decimal that count."""
+    return text.partition("e")[0].replace("-", "").replace(".", "").strip("0")
+
+
+def test_numbers(tool, _samples):
+    """A Number's decimal gives the same double and has no digit too many."""
+    chance = random.Random(SEED)
+    with tempfile.TemporaryDirectory() as name:
+        text, supplement, log = (pathlib.Path(name) / n for n in ("text", "supplement", "log"))
+        text.write_text("slot SNM-32-1000 multiplier 7 divisor 65521 offset -5 raw -2147483648 to "
+                        "2147483647\nprn F001 SNM-32-1000\n"
+                        "layout header 08 6B selector 41 prns 0004 F001\n", encoding="ascii")
+        subprocess.run([tool, "compile", text, supplement], stdout=subprocess.DEVNULL, check=True)
+        with open(log, "wb") as file:
+            for _ in range(NUMBERS):
+                data = bytes((0x41, chance.randrange(256))) + chance.randbytes(4)
+                subprocess.run([tool, "send", "486B10", data.hex()], stdout=file, check=True)
+        reports = objects(tool, supplement, log, parse_float=str, parse_int=str)
+    rows = [row for report in reports for row in report["items"]]
+    if len(rows) != 2 * NUMBERS:
+        yield f"{2 * NUMBERS} Numbers are {len(rows)}"
+    for row in rows:
+        wanted, = struct.unpack(">d", bytes.fromhex(row["double"]))
+        if float(row["value"]) != wanted or digits(row["value"]) != digits(repr(wanted)):
+            yield f"a Number is not the shortest decimal of its double {wanted!r}: {row}"
+
+
+def test_stream(tool, samples):
+    """Each frame is shown before the next one comes."""
+    process = subprocess.Popen([tool, "report", samples / "van.sup", "-"], stdin=subprocess.PIPE,
+                               stdout=subprocess.PIPE)
+    for _ in range(3):
+        process.stdin.write(FRAME)
+        process.stdin.flush()
+        shown = b""
+        while b"verdict" not in shown:
+            if not select.select([process.stdout], [], [], SECONDS)[0]:
+                yield "a frame of a stream is not shown before the next one comes"
+                process.kill()
+                return
+            shown += process.stdout.read1()
+    process.stdin.close()
+    if process.wait(SECONDS) != 0 or b"3 frames: 3 Clear" not in process.stdout.read():
+        yield "a stream is not shown to its end"
+
+
+TESTS = (test_round_trips, test_samples, test_json, test_numbers, test_stream)
+
+
+def main():
+    tool, samples = sys.argv[1], pathlib.Path(sys.argv[2])
+    faults = [fault for test in TESTS for fault in test(tool, samples)]
+    for fault in faults:
+        print(f"tool-test: {fault}")
+    print(f"tool-test: {SUPPLEMENTS} random supplements, {2 * NUMBERS} Numbers, every kind of line, "
+          f"JSON and a stream: {len(faults)} faults")
+    return 1 if faults else 0
+
+
+if __name__ == "__main__":
+    sys.exit(main())
