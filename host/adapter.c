@@ -1,5 +1,7 @@
 #include "adapter.h"
 
+#include "text.h"
+
 #include <string.h>
 
 static const struct saying sayings[] = {
@@ -25,20 +27,15 @@ static const struct saying sayings[] = {
     {"SAE J1850", " PVWM", false, "the bus that the adapter uses"},
     {"AUTO", " ,SAEJ1850PVWM", false, "the bus that the adapter uses"}};
 
-static char upper(char c)
-{
-    return c >= 'a' && c <= 'z' ? (char)(c - 'a' + 'A') : c;
-}
-
 /* Whether the text starts so, and what follows it may follow. */
 static bool is_saying(const char *text, size_t length, const struct saying *saying)
 {
     size_t i = 0;
-    while (i < length && saying->text[i] && upper(text[i]) == upper(saying->text[i]))
+    while (i < length && saying->text[i] && capital(text[i]) == saying->text[i])
         i++;
     if (saying->text[i] != '\0')
         return false;
-    while (saying->more && i < length && strchr(saying->more, upper(text[i])))
+    while (saying->more && i < length && strchr(saying->more, capital(text[i])))
         i++;
     return !saying->more || i == length;
 }

@@ -43,10 +43,18 @@ static const struct help helps[] = {
      "\n"
      "is shown and not decoded. Any other line is a fault.\n"
      "\n"
-     "  --json    one object a line for each frame: of every row its kind, bytes and\n"
-     "            code, and each double as its shortest decimal and as its 64 bits.\n"
-     "            What is passed over is said on the error output.\n"
-     "  --strict  exit status 1 unless every frame is Clear and none is damaged\n"},
+     "  --strict  exit status 1 unless every frame is Clear and none is damaged\n"
+     "  --json    one object a line for each frame, and nothing of it lost: \"line\",\n"
+     "            \"first\" and \"response\" (bytes), \"refusal\" (0 for none) and its\n"
+     "            \"reason\". Of a report also \"layout_sought\" (first byte, target,\n"
+     "            selector present, selector) and the rows: \"items\", \"remainder\",\n"
+     "            \"answer\" and \"verdict\". A row has its \"kind\" and \"word\" and, as\n"
+     "            \"row\", its bytes. A Number has \"value\", the shortest decimal, and\n"
+     "            \"double\", its 64 bits; other rows have \"code\" or \"number\", and\n"
+     "            what is known of it in \"text\" or \"reason\". An item has \"prn\",\n"
+     "            \"table\", \"name\", \"slot\" and \"unit\", null where there is none. A\n"
+     "            frame that the adapter marks has the refusal null. What is passed\n"
+     "            over is said on the error output.\n"},
     {"check", "SUPPLEMENT",
      "test a supplement and say what it holds",
      "Says whether the library accepts the file, and how many bytes, SLOTs by form,\n"

@@ -1,5 +1,7 @@
 #include "hex.h"
 
+#include "text.h"
+
 #include <string.h>
 
 int hex_digit(char c)
@@ -16,7 +18,7 @@ int hex_digit(char c)
 const char *hex_append(struct bytes *bytes, const char *text, size_t length)
 {
     for (size_t i = 0; i < length; i++) {
-        if (text[i] == ' ' || text[i] == '\t')
+        if (is_blank(text[i]))
             continue;
         int high = hex_digit(text[i]);
         if (high < 0)

@@ -2,6 +2,7 @@
 
 #include "adapter.h"
 #include "rakhubole.h"
+#include "text.h"
 
 #include <errno.h>
 #include <string.h>
@@ -9,15 +10,12 @@
 /* One digit less than the shortest frame with a header of three bytes. */
 enum { COMMAND_DIGITS = 7 };
 
-static bool is_blank(char c)
-{
-    return c == ' ' || c == '\t';
-}
-
 static void trim(struct entry *entry)
 {
-    while (entry->length > 0 && is_blank(entry->text[0]))
-        entry->text++, entry->length--;
+    while (entry->length > 0 && is_blank(entry->text[0])) {
+        entry->text++;
+        entry->length--;
+    }
     while (entry->length > 0 && is_blank(entry->text[entry->length - 1]))
         entry->length--;
 }
@@ -41,7 +39,8 @@ static bool strip(struct entry *entry)
         entry->length = (size_t)(comment - entry->text);
     trim(entry);
     while (entry->length > 0 && entry->text[0] == '>') {
-        entry->text++, entry->length--;
+        entry->text++;
+        entry->length--;
         trim(entry);
         has_prompt = true;
     }
@@ -84,20 +83,34 @@ static void read_entry(struct entry *entry, bool has_prompt)
     }
 }
 
+/* What there is when no line could be read. */
+static void read_end(struct entry *entry, enum line_answer answer)
+{
+    switch (answer) {
+    case LINE_NONE:
+        entry->kind = ENTRY_NONE;
+        break;
+    case LINE_UNREADABLE:
+        entry->kind = ENTRY_UNREADABLE;
+        entry->words = strerror(errno);
+        break;
+    default:
+        entry->kind = ENTRY_FAULT;
+        entry->words = "longer than 4,096 characters";
+    }
+}
+
 void log_next(struct lines *lines, struct entry *entry)
 {
     for (;;) {
         enum line_answer answer = lines_next(lines);
         drop_zeros(lines);
-        *entry = (struct entry){.line = lines->number, .text = lines->text};
-        entry->length = lines->length;
-        entry->kind = answer == LINE_NONE ? ENTRY_NONE : ENTRY_FAULT;
-        if (answer == LINE_TOO_LONG)
-            entry->words = "longer than 4,096 characters";
-        if (answer == LINE_UNREADABLE)
-            entry->words = strerror(errno);
-        if (answer != LINE_READ)
+        *entry = (struct entry){.line = lines->number, .text = lines->text,
+                                .length = lines->length};
+        if (answer != LINE_READ) {
+            read_end(entry, answer);
             return;
+        }
         bool has_prompt = strip(entry);
         if (entry->length > 0) {
             read_entry(entry, has_prompt);

@@ -10,7 +10,8 @@ enum entry_kind {
     ENTRY_DAMAGED, /* the adapter says that a frame was damaged or lost */
     ENTRY_PASSED,  /* a line of the adapter that holds no frame */
     ENTRY_NONE,    /* the log is at its end */
-    ENTRY_FAULT    /* neither a frame nor a line of an adapter, or unreadable */
+    ENTRY_FAULT,   /* neither a frame nor a line of an adapter */
+    ENTRY_UNREADABLE
 };
 
 struct entry {

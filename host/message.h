@@ -15,9 +15,15 @@ enum {
 /* Writes the text with every byte that is not printable ASCII as \xNN. */
 void put_safely(FILE *file, const char *text, size_t length);
 
+#ifdef __GNUC__
+#define CHECKED_AS_PRINTF __attribute__((format(printf, 1, 2)))
+#else
+#define CHECKED_AS_PRINTF
+#endif
+
 /* Writes one line to the error output: the program's name and the message,
  * made safe as a whole. */
-void complain(const char *format, ...);
+void complain(const char *format, ...) CHECKED_AS_PRINTF;
 
 /* Flushes the output; STATUS_USAGE and a message if it cannot be written. */
 int flush_output(void);

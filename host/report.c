@@ -21,6 +21,10 @@ struct session {
 static int complain_of_line(const struct session *session, const struct entry *entry)
 {
     enum { SHOWN = 60 };
+    if (entry->kind == ENTRY_UNREADABLE) {
+        complain("%s: %s", session->path, entry->words);
+        return STATUS_USAGE;
+    }
     int shown = entry->length < SHOWN ? (int)entry->length : SHOWN;
     complain("%s line %zu: neither a frame nor a line of an adapter (%s): \"%.*s%s\"",
              session->path, entry->line, entry->words, shown, entry->text,
@@ -73,6 +77,13 @@ static int show_entry(struct session *session, const struct entry *entry)
     }
 }
 
+/* Whether nothing can follow in the log. */
+static bool is_last(const struct entry *entry)
+{
+    return entry->kind == ENTRY_NONE || entry->kind == ENTRY_FAULT ||
+           entry->kind == ENTRY_UNREADABLE;
+}
+
 /* Whether every line of the log can be read, before anything is shown. */
 static int try_log(const struct session *session, FILE *file)
 {
@@ -81,9 +92,9 @@ static int try_log(const struct session *session, FILE *file)
     lines_start(&lines, file);
     do
         log_next(&lines, &entry);
-    while (entry.kind != ENTRY_NONE && entry.kind != ENTRY_FAULT);
+    while (!is_last(&entry));
     rewind(file);
-    return entry.kind == ENTRY_FAULT ? complain_of_line(session, &entry) : STATUS_DONE;
+    return entry.kind == ENTRY_NONE ? STATUS_DONE : complain_of_line(session, &entry);
 }
 
 /* Shows the log line by line, as it comes. */
@@ -100,6 +111,8 @@ static int show_log(struct session *session, FILE *file, unsigned long long size
         if (entry.kind == ENTRY_NONE)
             break;
         progress_step(&progress, entry.line, lines.place);
+        if (entry.kind != ENTRY_FRAME)
+            progress_end(&progress); /* a message may come */
         status = show_entry(session, &entry);
         if (status == STATUS_DONE)
             status = flush_output();

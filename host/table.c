@@ -168,10 +168,11 @@ static void put_response(const struct reading *reading, const struct runs *runs)
     if (reading->response_length == 0)
         fputs("none", stdout);
     put_bytes(stdout, runs->response.at, reading->response_length);
+    fputs(", ", stdout);
     if (row->kind == RAKHUBOLE_ROW_ANSWERED)
-        printf(", kind %u: %s", (unsigned)row->body, response_words((unsigned)row->body));
+        printf("kind %u: %s", (unsigned)row->body, response_words((unsigned)row->body));
     else
-        fputs(", ", stdout), put_item(row, NULL);
+        put_item(row, NULL);
     printf("%s\n", color_off(line_color(row)));
 }
 

@@ -1,6 +1,7 @@
 #include "text_record.h"
 
 #include "hex.h"
+#include "text.h"
 #include "words.h"
 
 #include <stdio.h>
@@ -13,11 +14,6 @@ struct cursor {
     int length;
     char *fault;
 };
-
-static bool is_blank(char c)
-{
-    return c == ' ' || c == '\t';
-}
 
 /* Reads the next word; its length is 0 at the end of the line. */
 static void next_word(struct cursor *cursor)
@@ -48,15 +44,10 @@ static bool fail(struct cursor *cursor, const char *wanted)
     return false;
 }
 
-static char lower(char c)
-{
-    return c >= 'A' && c <= 'Z' ? (char)(c - 'A' + 'a') : c;
-}
-
 static bool is_word(const struct cursor *cursor, const char *text)
 {
     int i = 0;
-    while (i < cursor->length && text[i] && lower(cursor->word[i]) == lower(text[i]))
+    while (i < cursor->length && text[i] && capital(cursor->word[i]) == capital(text[i]))
         i++;
     return i == cursor->length && text[i] == '\0';
 }
@@ -145,14 +136,15 @@ static bool take_prn(struct cursor *cursor, uint8_t out[2])
     return true;
 }
 
-/* The form with this name, 0 if there is none. */
-static uint8_t form_named(const char *name)
+/* The form whose name the word starts with, 0 if there is none. */
+static uint8_t form_named(const struct cursor *cursor)
 {
-    for (uint8_t form = FORM_UNM; form <= FORM_LAST; form++)
-        if (lower(name[0]) == lower(form_name(form)[0]) &&
-            lower(name[1]) == lower(form_name(form)[1]) &&
-            lower(name[2]) == lower(form_name(form)[2]))
+    for (uint8_t form = FORM_UNM; form <= FORM_LAST; form++) {
+        struct cursor name = *cursor;
+        name.length = cursor->length < 3 ? 0 : 3;
+        if (is_word(&name, form_name(form)))
             return form;
+    }
     return 0;
 }
 
@@ -163,13 +155,13 @@ static bool take_slot(struct cursor *cursor, uint8_t out[4])
     uint32_t width, number;
     next_word(cursor);
     const char *word = cursor->word, *end = word + cursor->length;
-    if (cursor->length < 4 || word[3] != '-' || form_named(word) == 0)
+    if (cursor->length < 4 || word[3] != '-' || form_named(cursor) == 0)
         return fail(cursor, wanted);
     const char *dash = memchr(word + 4, '-', (size_t)(cursor->length - 4));
     if (!dash || !decimal(word + 4, (int)(dash - word) - 4, UINT8_MAX, &width) ||
         !decimal(dash + 1, (int)(end - dash) - 1, UINT16_MAX, &number))
         return fail(cursor, wanted);
-    out[0] = form_named(word);
+    out[0] = form_named(cursor);
     out[1] = (uint8_t)width;
     out[2] = (uint8_t)(number >> 8);
     out[3] = (uint8_t)number;
@@ -263,24 +255,34 @@ static bool read_layout(struct cursor *cursor, uint8_t out[LAYOUT_SIZE])
     return cursor->length == 0 || fail(cursor, "the end, since a layout has at most 16 PRNs,");
 }
 
+/* Reads the record that the line's first word names. */
+static bool read_record(struct cursor *cursor, uint8_t out[LAYOUT_SIZE])
+{
+    static const struct {
+        const char *word;
+        uint8_t kind;
+        bool (*read)(struct cursor *cursor, uint8_t *out);
+    } kinds[] = {{"slot", RECORD_SLOT, read_slot},
+                 {"prn", RECORD_PRN, read_prn},
+                 {"layout", RECORD_LAYOUT, read_layout}};
+    for (size_t i = 0; i < sizeof kinds / sizeof *kinds; i++) {
+        if (!is_word(cursor, kinds[i].word))
+            continue;
+        out[0] = kinds[i].kind;
+        return kinds[i].read(cursor, out) && take_end(cursor);
+    }
+    return fail(cursor, "slot, prn or layout");
+}
+
 size_t text_record(const char *line, size_t length, uint8_t out[LAYOUT_SIZE],
                    char fault[TEXT_FAULT_SIZE])
 {
     const char *comment = memchr(line, '#', length);
     struct cursor cursor = {line, comment ? comment : line + length, line, 0, fault};
-    bool is_read = false;
     fault[0] = '\0';
     memset(out, 0, LAYOUT_SIZE);
     next_word(&cursor);
-    if (cursor.length == 0)
+    if (cursor.length == 0 || !read_record(&cursor, out))
         return 0;
-    if (is_word(&cursor, "slot"))
-        out[0] = RECORD_SLOT, is_read = read_slot(&cursor, out);
-    else if (is_word(&cursor, "prn"))
-        out[0] = RECORD_PRN, is_read = read_prn(&cursor, out);
-    else if (is_word(&cursor, "layout"))
-        out[0] = RECORD_LAYOUT, is_read = read_layout(&cursor, out);
-    else
-        fail(&cursor, "slot, prn or layout");
-    return is_read && take_end(&cursor) ? record_size(out[0]) : 0;
+    return record_size(out[0]);
 }

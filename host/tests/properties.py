@@ -3,17 +3,22 @@
 
     properties.py TOOL SAMPLES
 
-Random supplements come back from their text byte for byte; the samples show every kind of line; JSON
-loses nothing, and its numbers are as short as can be; a stream is shown as it comes.
+Random supplements come back from their text byte for byte; the samples show every kind of line;
+JSON loses nothing, and its numbers are as short as can be; a stream is shown as it comes, with
+progress where somebody looks.
 """
 import json
+import os
 import pathlib
+import pty
 import random
+import re
 import select
 import struct
 import subprocess
 import sys
 import tempfile
+import time
 
 SUPPLEMENTS = 300
 NUMBERS = 100
@@ -24,6 +29,8 @@ UNKNOWNS = set(range(1, 9))
 ROW_KINDS = set(range(1, 12))
 VERDICTS = {1, 2, 3}
 FRAME = b"48 6B 10 41 65 80 29\n"
+PAUSE = 0.5
+STEPS = rb"(\r\x1b\[Kline \d+)+\r\x1b\[K"
 
 
 def edge(chance, low, high):
@@ -47,7 +54,8 @@ def random_slot(chance):
 
 def random_prn(chance):
     return (b"\2" + number(chance.randint(0xF000, 0xF7FF), 2)
-            + bytes((chance.randint(1, 9), edge(chance, 1, 64))) + number(edge(chance, 0, 65535), 2))
+            + bytes((chance.randint(1, 9), edge(chance, 1, 64)))
+            + number(edge(chance, 0, 65535), 2))
 
 
 def random_layout(chance):
@@ -175,7 +183,41 @@ def test_stream(tool, samples):
         yield "a stream is not shown to its end"
 
 
-TESTS = (test_round_trips, test_samples, test_json, test_numbers, test_stream)
+def on_terminal(tool, samples, options, out):
+    """What stands on the terminal that has the error output, while frames come slowly."""
+    ours, theirs = pty.openpty()
+    process = subprocess.Popen([tool, "report", *options, samples / "van.sup", "-"],
+                               stdin=subprocess.PIPE, stdout=theirs if out is None else out,
+                               stderr=theirs)
+    process.stdin.write(FRAME)
+    process.stdin.flush()
+    time.sleep(PAUSE)
+    process.stdin.write(FRAME + b"OK\n")
+    process.stdin.close()
+    process.wait(SECONDS)
+    os.close(theirs)
+    shown = b""
+    while select.select([ours], [], [], SECONDS)[0]:
+        try:
+            shown += os.read(ours, 4096)
+        except OSError:
+            break
+    os.close(ours)
+    return shown
+
+
+def test_progress(tool, samples):
+    """Progress is shown where the output goes elsewhere, and is taken away before a message."""
+    for options, out, wanted in (
+            ((), subprocess.DEVNULL, STEPS),
+            (("--json",), subprocess.DEVNULL, STEPS + rb"rakhubole: line 3 passed over[^\r]*\r\n"),
+            ((), None, rb"[^\x1b]*(\x1b\[(32|0)m[^\x1b]*)*")):
+        shown = on_terminal(tool, samples, options, out)
+        if not re.fullmatch(wanted, shown):
+            yield f"on a terminal stands {shown!r}, not {wanted!r}"
+
+
+TESTS = (test_round_trips, test_samples, test_json, test_numbers, test_stream, test_progress)
 
 
 def main():
@@ -183,8 +225,8 @@ def main():
     faults = [fault for test in TESTS for fault in test(tool, samples)]
     for fault in faults:
         print(f"tool-test: {fault}")
-    print(f"tool-test: {SUPPLEMENTS} random supplements, {2 * NUMBERS} Numbers, every kind of line, "
-          f"JSON and a stream: {len(faults)} faults")
+    print(f"tool-test: {SUPPLEMENTS} random supplements, {2 * NUMBERS} Numbers, every kind of "
+          f"line, JSON, a stream and progress: {len(faults)} faults")
     return 1 if faults else 0
 
 

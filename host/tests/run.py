@@ -11,9 +11,9 @@ A case file is text. After a comment (#) or a blank line, a case is
     ! line         of its error output
     ? status       if it is not 0
 
-In place of $, a % runs the command on a terminal and an @ gives it a terminal for its error output
-alone. Characters that cannot be printed are stored as <1B>. The command `bytes 02 F0 01` writes
-those bytes, `rakhubole` is TOOL, and `odd` stands for TOOL with the ending -odd.
+In place of $, a % runs the command on a terminal. Characters that cannot be printed are stored as
+<1B>. The command `bytes 02 F0 01` writes those bytes, `rakhubole` is TOOL, and `odd` stands for
+TOOL with the ending -odd.
 """
 import difflib
 import os
@@ -24,7 +24,7 @@ import subprocess
 import sys
 import tempfile
 
-SIGNS = "$%@"
+SIGNS = "$%"
 TIME_LIMIT = 60
 
 
@@ -76,19 +76,19 @@ def drain(terminal):
 
 def run(case, folder, environment):
     """What the command prints, as stored."""
-    ours, theirs = pty.openpty() if case.sign != "$" else (None, None)
-    out = theirs if case.sign == "%" else subprocess.PIPE
-    err = theirs if case.sign != "$" else subprocess.PIPE
-    process = subprocess.Popen(["sh", "-c", case.command], cwd=folder, env=environment,
-                               stdin=subprocess.DEVNULL, stdout=out, stderr=err)
-    if theirs is not None:
+    command = {"args": ["sh", "-c", case.command], "cwd": folder, "env": environment,
+               "stdin": subprocess.DEVNULL}
+    if case.sign == "$":
+        process = subprocess.run(**command, stdout=subprocess.PIPE, stderr=subprocess.PIPE,
+                                 timeout=TIME_LIMIT)
+        lines = shown(process.stdout, "|") + shown(process.stderr, "!")
+    else:
+        ours, theirs = pty.openpty()
+        process = subprocess.Popen(**command, stdout=theirs, stderr=theirs)
         os.close(theirs)
-    on_terminal = drain(ours) if ours is not None else b""
-    output, errors = process.communicate(timeout=TIME_LIMIT)
-    if ours is not None:
+        lines = shown(drain(ours), "|")
         os.close(ours)
-    lines = shown(on_terminal if case.sign == "%" else output, "|")
-    lines += shown(on_terminal, "!") if case.sign == "@" else shown(errors or b"", "!")
+        process.wait(TIME_LIMIT)
     if process.returncode:
         lines.append(f"? {process.returncode}")
     return lines
