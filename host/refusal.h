@@ -4,7 +4,7 @@
 
 #include "records.h"
 
-enum { RECORD_TITLE_SIZE = 64, RECORD_FAULT_SIZE = 192, FAULT_SIZE = 320 };
+enum { RECORD_TITLE_SIZE = 64, RECORD_FAULT_SIZE = 192, FAULT_SIZE = 448 };
 
 /* What the record is: "PRN 1025h", "layout 08h 6Bh selector 41h". */
 void record_title(const struct record *record, char title[RECORD_TITLE_SIZE]);
