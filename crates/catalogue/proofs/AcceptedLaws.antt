@@ -80,7 +80,7 @@ module _ (seen : List (List ℕ)) (r : List ℕ) where
   new-differs e q m same =
       true≢false (sym (has-taken (keySize (kindOf q)) q) ∙ ap (λ (k : List ℕ). hasKey k q) same ∙ none-is (hasKey (keyOf r)) seen (not-found _ e) q m)
 
-  differs-new :
+  pub differs-new :
       FullKey (keyOf r)
       → ((q : List ℕ) → List·Memᴰ q seen → keyOf q ≡ keyOf r → ⊥)
       → isFound (firstWhere (hasKey (keyOf r)) seen) ≡ false

@@ -1,4 +1,5 @@
 -- Laws that belong to no one function.
+pub mod FilterLaws
 pub mod RecordLaws
 pub mod SupplementLaws
 pub mod CheckLaws

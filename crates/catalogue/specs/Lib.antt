@@ -1,3 +1,4 @@
 pub mod Record
 pub mod Supplement
+pub mod Filter
 pub mod Lookup

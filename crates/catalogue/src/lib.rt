@@ -1,4 +1,5 @@
 // The catalogue: the SAE tables and a supplement of records together.
+mod filter;
 pub mod lookup;
 pub mod record;
 pub mod supplement;

@@ -1,4 +1,5 @@
 // A supplement as a run of records: the search for a key, and the test.
+use crate::filter::mark;
 use crate::record::byte_at;
 use crate::record::has_key;
 use crate::record::in_range;
@@ -6,11 +7,13 @@ use crate::record::in_sae;
 use crate::record::key_size;
 use crate::record::record_size;
 ghost use mathlib.Core.Path.{_≡_};
+ghost use mathlib.Core.List.{[], _∷_, _++_};
 ghost use Prim.Native.Nat.{_+_, _≤_, _<_};
 ghost use lib.ListN.{length, take, drop};
 ghost use Rattle.sae.specs.Search.{firstWhere, isFound};
-ghost use Rattle.catalogue.specs.Record.{kindOf, keySize, keyOf, hasKey, fault};
+ghost use Rattle.catalogue.specs.Record.{recordSize, kindOf, keySize, keyOf, hasKey, fault};
 ghost use Rattle.catalogue.specs.Supplement.{recordFrom, recordsOf, recordWith, recordAt, Spanned, check};
+ghost use Rattle.catalogue.specs.Filter.{Covers};
 
 // Where a record stands, from its first byte to behind its last.
 pub enum RecordFound {
@@ -66,9 +69,27 @@ fn seen_before(seen: &[u8], bytes: &[u8]) -> bool
     }
 }
 
+// The same, searched only where the filter of those seen can't say that the key is new. The filter then has the key too.
+fn repeats(seen: &[u8], bytes: &[u8], filter: &mut [u64]) -> bool
+    requires known { ⌜ 1 < recordSize (kindOf (now bytes)) ⌝ }
+    requires whole { ⌜ recordSize (kindOf (now bytes)) ≤ length (now bytes) ⌝ }
+    requires covered { ⌜ Covers (now filter) (recordsOf (now seen)) ⌝ }
+    ensures found { λ r. ⌜ r ≡ isFound (firstWhere (hasKey (keyOf (now (bytes .entry)))) (recordsOf (now (seen .entry)))) ⌝ }
+    ensures covered { λ r. ⌜ Covers (now (filter .exit)) (recordsOf (now (seen .entry)) ++ now (bytes .entry) ∷ []) ⌝ }
+{
+    let size = key_size(byte_at(bytes, 0));
+    if mark(filter, &bytes[..size]) {
+        seen_before(seen, bytes)
+    } else {
+        false
+    }
+}
+
 // The lowest of 11 to 15 that applies to a record after those seen, or 0.
-fn fault_of(seen: &[u8], bytes: &[u8]) -> u8
-    ensures { λ r. ⌜ r ≡ fault (recordsOf (now (seen .entry))) (now (bytes .entry)) ⌝ }
+fn fault_of(seen: &[u8], bytes: &[u8], filter: &mut [u64]) -> u8
+    requires { ⌜ Covers (now filter) (recordsOf (now seen)) ⌝ }
+    ensures told { λ r. ⌜ r ≡ fault (recordsOf (now (seen .entry))) (now (bytes .entry)) ⌝ }
+    ensures covered { λ r. ⌜ (r ≡ 0 → Covers (now (filter .exit)) (recordsOf (now (seen .entry)) ++ now (bytes .entry) ∷ [])) ⌝ }
 {
     let size = record_size(byte_at(bytes, 0));
     if size <= 1 {
@@ -80,13 +101,33 @@ fn fault_of(seen: &[u8], bytes: &[u8]) -> u8
     if !in_range(bytes) {
         return 13;
     }
-    if seen_before(seen, bytes) {
+    if repeats(seen, bytes, filter) {
         return 14;
     }
     if in_sae(bytes) {
         return 15;
     }
     0
+}
+
+// The test of records with any filter, whatever its length and its bits.
+fn check_records(s: &[u8], filter: &mut [u64]) -> Checked
+    requires { ⌜ length (now s) ≤ 16384 ⌝ }
+    ensures { λ r. ⌜ r ≡ check (now (s .entry)) ⌝ }
+{
+    let mut at: usize = 0;
+    while at < s.len() {
+        let end = record_end(s, at);
+        let refusal = fault_of(&s[..at], &s[at..end], filter);
+        if refusal != 0 {
+            return Checked { refusal, place: at };
+        }
+        at = end;
+    }
+    Checked {
+        refusal: 0,
+        place: 0,
+    }
 }
 
 // Tests any bytes: accepted, or the refusal and the place of the first record with a fault.
@@ -99,17 +140,10 @@ pub fn check_supplement(s: &[u8]) -> Checked
             place: 0,
         };
     }
-    let mut at: usize = 0;
-    while at < s.len() {
-        let end = record_end(s, at);
-        let refusal = fault_of(&s[..at], &s[at..end]);
-        if refusal != 0 {
-            return Checked { refusal, place: at };
-        }
-        at = end;
+    if s.len() <= 128 {
+        let mut none = [0u64; 1];
+        return check_records(s, &mut none);
     }
-    Checked {
-        refusal: 0,
-        place: 0,
-    }
+    let mut filter = [0u64; 1024];
+    check_records(s, &mut filter)
 }

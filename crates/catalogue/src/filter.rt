@@ -1,0 +1,30 @@
+// A filter of keys: a key whose bit is not set is surely new.
+use crate::record::byte_at;
+use crate::record::two_at;
+ghost use mathlib.Core.Path.{_≡_};
+ghost use Rattle.catalogue.specs.Filter.{bitOf, Marks};
+
+// The place of a key's bit among 65,536. Two PRNs never share a bit, nor do two SLOTs of one form and width.
+fn bit_of(key: &[u8]) -> usize
+    ensures { λ r. ⌜ r ≡ bitOf (now (key .entry)) ⌝ }
+{
+    let kind = byte_at(key, 0);
+    let near = two_at(key, 1);
+    let far = two_at(key, 3);
+    (kind as usize * 21845 + near as usize * 40503 + far as usize) % 65536
+}
+
+// Sets the bit of a key, and tells whether it was set. A bit beyond the filter's end counts as set.
+pub(crate) fn mark(filter: &mut [u64], key: &[u8]) -> bool
+    ensures { λ r. ⌜ Marks (now (filter .entry)) (now (filter .exit)) (now (key .entry)) r ⌝ }
+{
+    let bit = bit_of(key);
+    let at = bit / 64;
+    if filter.len() <= at {
+        return true;
+    }
+    let place = bit % 64;
+    let word = filter[at];
+    filter[at] = word | (1 << place);
+    (word >> place) & 1 == 1
+}
