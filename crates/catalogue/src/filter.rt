@@ -1,6 +1,6 @@
 // A filter of keys: a key whose bit is not set is surely new.
-use crate::record::byte_at;
 use crate::record::two_at;
+use frame::header::byte_at;
 ghost use mathlib.Core.Path.{_≡_};
 ghost use Rattle.catalogue.specs.Filter.{bitOf, Marks};
 

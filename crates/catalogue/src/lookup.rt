@@ -1,10 +1,10 @@
 // What the SAE tables and a supplement hold together: by PRN, by form, width and number, and by layout key.
-use crate::record::byte_at;
 use crate::record::prn_of;
 use crate::record::slot_of;
 use crate::record::two_at;
 use crate::supplement::RecordFound;
 use crate::supplement::find_record;
+use frame::header::byte_at;
 use sae::sae::PrnFound;
 use sae::sae::SlotFound;
 use sae::sae::prn_row;

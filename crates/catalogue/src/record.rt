@@ -1,4 +1,5 @@
 // A record of a supplement: its size, its key and its fields.
+use frame::header::byte_at;
 use sae::ranges::prn_fits;
 use sae::ranges::slot_fits;
 use sae::sae::PrnRow;
@@ -7,7 +8,7 @@ use sae::sae::has_prn;
 use sae::sae::has_slot;
 ghost use mathlib.Core.Path.{_≡_};
 ghost use Prim.Native.Nat.{_<_};
-ghost use lib.ListN.{getD, drop};
+ghost use lib.ListN.{drop};
 ghost use Rattle.catalogue.specs.Record.{recordSize, keySize, hasKey, two, four, slotRow, prnRow, allZero, headerFits, selectorFits, layoutFits, inRange, inSae};
 
 // Bytes of a record by its kind; an unknown kind is one byte.
@@ -32,13 +33,6 @@ pub(crate) fn key_size(kind: u8) -> usize
         3 => 5,
         _ => 0,
     }
-}
-
-// A byte of a record; 0 past its end.
-pub(crate) fn byte_at(bytes: &[u8], i: usize) -> u8
-    ensures { λ r. ⌜ r ≡ getD (now (bytes .entry)) i 0 ⌝ }
-{
-    if i < bytes.len() { bytes[i] } else { 0 }
 }
 
 pub(crate) fn two_at(bytes: &[u8], i: usize) -> u16

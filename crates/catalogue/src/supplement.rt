@@ -1,11 +1,11 @@
 // A supplement as a run of records: the search for a key, and the test.
 use crate::filter::mark;
-use crate::record::byte_at;
 use crate::record::has_key;
 use crate::record::in_range;
 use crate::record::in_sae;
 use crate::record::key_size;
 use crate::record::record_size;
+use frame::header::byte_at;
 ghost use mathlib.Core.Path.{_≡_};
 ghost use mathlib.Core.List.{[], _∷_, _++_};
 ghost use Prim.Native.Nat.{_+_, _≤_, _<_};
