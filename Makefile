@@ -90,3 +90,5 @@ tool-test: $(TOOL) $(TOOL)-odd
 
 clean:
 	rm -rf build target
+
+include bench/bench.mk

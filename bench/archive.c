@@ -1,0 +1,8 @@
+#include "calls.h"
+
+#include "rakhubole.h"
+
+const struct calls archive_calls = {
+    "archive", rakhubole_j1850_read, rakhubole_j1850_write, rakhubole_supplement_check,
+    rakhubole_j1850_report,
+};

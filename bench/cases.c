@@ -1,0 +1,139 @@
+#include "cases.h"
+
+#include "rakhubole.h"
+
+#include <string.h>
+
+#define MOST_SUPPLEMENT 16384
+/* Items of eight bits that a frame of twelve bytes holds behind its selector. */
+#define ITEMS 7
+
+struct supplement {
+    uint8_t bytes[MOST_SUPPLEMENT];
+    size_t length;
+};
+
+static uint8_t output[RAKHUBOLE_ROWS_MOST];
+
+/* Header 48 6B 10, selector 41; the check bytes are put when the cases are made. */
+static uint8_t short_frame[7] = {0x48, 0x6B, 0x10, 0x41, 0x65, 0x80};
+static uint8_t full_frame[12] = {0x48, 0x6B, 0x10, 0x41, 1, 2, 3, 4, 5, 6, 7};
+
+static void put(struct supplement *supplement, uint32_t number, size_t bytes)
+{
+    for (size_t i = bytes; i > 0; i--)
+        supplement->bytes[supplement->length++] = (uint8_t)(number >> 8 * (i - 1));
+}
+
+/* The layout of both frames. */
+static void put_layout(struct supplement *supplement, const uint16_t *prns, size_t count)
+{
+    put(supplement, 3, 1);
+    put(supplement, 0x086B0141, 4);
+    put(supplement, (uint32_t)count, 1);
+    for (size_t i = 0; i < 16; i++)
+        put(supplement, i < count ? prns[i] : 0, 2);
+}
+
+/* A PRN of form UNM and eight bits. */
+static void put_prn(struct supplement *supplement, uint16_t prn, uint16_t slot)
+{
+    put(supplement, 2, 1);
+    put(supplement, prn, 2);
+    put(supplement, 0x0108, 2);
+    put(supplement, slot, 2);
+}
+
+/* A SLOT of form UNM and eight bits, N / 2 - 40. */
+static void put_slot(struct supplement *supplement, uint16_t number)
+{
+    put(supplement, 1, 1);
+    put(supplement, 0x0108, 2);
+    put(supplement, number, 2);
+    put(supplement, 0x00010002, 4);
+    put(supplement, (uint32_t)-80, 4);
+    put(supplement, 0, 4);
+    put(supplement, 255, 4);
+}
+
+/* The i-th of up to 4,096 keys, scattered; neither SAE table has one of them. */
+static uint16_t key(size_t i)
+{
+    return (uint16_t)(0x4000 + i * 5003 % 4096);
+}
+
+/* The key of the i-th of `ITEMS` records that lie evenly among `count`. */
+static uint16_t item_key(size_t i, size_t count)
+{
+    return key((i + 1) * count / ITEMS - 1);
+}
+
+static void put_layout_of_items(struct supplement *supplement, size_t count)
+{
+    uint16_t prns[ITEMS];
+    for (size_t i = 0; i < ITEMS; i++)
+        prns[i] = item_key(i, count);
+    put_layout(supplement, prns, ITEMS);
+}
+
+static struct run one_layout(void)
+{
+    static struct supplement supplement;
+    static const uint16_t prns[] = {0x1025, 0x100B};
+    put_layout(&supplement, prns, 2);
+    return (struct run){supplement.bytes, supplement.length};
+}
+
+/* PRNs with an SAE SLOT, then the layout that names seven of them. */
+static struct run prn_records(struct supplement *supplement, size_t count)
+{
+    for (size_t i = 0; i < count; i++)
+        put_prn(supplement, key(i), 101);
+    put_layout_of_items(supplement, count);
+    return (struct run){supplement->bytes, supplement->length};
+}
+
+/* SLOTs, seven PRNs that use them, and the layout that names those. */
+static struct run slot_records(struct supplement *supplement, size_t count)
+{
+    for (size_t i = 0; i < count; i++)
+        put_slot(supplement, key(i));
+    for (size_t i = 0; i < ITEMS; i++)
+        put_prn(supplement, item_key(i, count), item_key(i, count));
+    put_layout_of_items(supplement, count);
+    return (struct run){supplement->bytes, supplement->length};
+}
+
+/* Puts the check byte of a frame by writing its parts. */
+static struct run sealed(uint8_t *frame, size_t length)
+{
+    rakhubole_j1850_write(frame, 3, frame + 3, length - 4, NULL, 0, output, sizeof output);
+    frame[length - 1] = output[length - 1];
+    return (struct run){frame, length};
+}
+
+static struct request report(struct run supplement, struct run first)
+{
+    return (struct request){CALL_REPORT, {supplement, first, {NULL, 0}}, output, sizeof output};
+}
+
+const struct bench_case *bench_cases(void)
+{
+    static struct supplement small, full_of_prns, full_of_slots;
+    static struct bench_case cases[CASE_COUNT];
+    if (cases[0].name)
+        return cases;
+    struct run two_items = sealed(short_frame, sizeof short_frame);
+    struct run seven_items = sealed(full_frame, sizeof full_frame);
+    struct run header = {full_frame, 3}, data = {full_frame + 3, 8}, none = {NULL, 0};
+    const struct bench_case made[CASE_COUNT] = {
+        {"report, one layout", report(one_layout(), two_items), 1.0},
+        {"report, 100 PRN records", report(prn_records(&small, 100), seven_items), 1.0},
+        {"report, 2,300 PRN records", report(prn_records(&full_of_prns, 2300), seven_items), 0.1},
+        {"report, 770 SLOT records", report(slot_records(&full_of_slots, 770), seven_items), 0.1},
+        {"read", {CALL_READ, {seven_items, none, none}, NULL, 0}, 0},
+        {"write", {CALL_WRITE, {header, data, none}, output, sizeof output}, 0},
+    };
+    memcpy(cases, made, sizeof made);
+    return cases;
+}

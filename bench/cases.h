@@ -1,0 +1,19 @@
+/* cases.h: the inputs that are timed. */
+#ifndef CASES_H
+#define CASES_H
+
+#include "calls.h"
+
+#define CASE_COUNT 6
+
+struct bench_case {
+    const char *name;
+    struct request request;
+    /* the most that the archive's time may be of the other's; 0 for none */
+    double target;
+};
+
+/* The cases; they stand in memory that is filled at the first call. */
+const struct bench_case *bench_cases(void);
+
+#endif

@@ -1,0 +1,56 @@
+/* decoder_parts.h: what the files of the decoder share. */
+#ifndef DECODER_PARTS_H
+#define DECODER_PARTS_H
+
+#include "rows.h"
+
+#include <stdbool.h>
+#include <stddef.h>
+#include <stdint.h>
+
+enum form { UNM = 1, SNM, SED, BMP, ASC, BCD, BMM, SFP, PKT };
+
+struct frame {
+    const uint8_t *header;
+    const uint8_t *data;
+    size_t header_length;
+    size_t data_length;
+    size_t response_length;
+    unsigned kind;
+};
+
+/* The refusal, or 0 and the frame's parts. */
+unsigned read_frame(const uint8_t *first, size_t first_length, const uint8_t *response,
+                    size_t response_length, struct frame *frame);
+
+static inline uint16_t number_16(const uint8_t *bytes)
+{
+    return (uint16_t)(bytes[0] << 8 | bytes[1]);
+}
+
+static inline uint32_t number_32(const uint8_t *bytes)
+{
+    return (uint32_t)number_16(bytes) << 16 | number_16(bytes + 2);
+}
+
+/* As two's complement of 32 bits. */
+static inline int64_t as_signed(uint32_t number)
+{
+    return number & 0x80000000u ? (int64_t)number - 0x100000000 : (int64_t)number;
+}
+
+/* An accepted one. */
+struct supplement {
+    const uint8_t *records;
+    size_t length;
+};
+
+/* In the SAE tables, or else in the supplement; false if in neither. */
+bool find_prn(const struct supplement *supplement, uint16_t prn, struct prn_row *row);
+bool find_slot(const struct supplement *supplement, const struct prn_row *prn,
+               struct slot_row *slot);
+
+/* The layout record for a frame, or NULL. */
+const uint8_t *find_layout(const struct supplement *supplement, const struct frame *frame);
+
+#endif

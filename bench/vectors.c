@@ -1,0 +1,84 @@
+#include "vectors.h"
+
+#include <stdio.h>
+#include <stdlib.h>
+#include <string.h>
+
+#define MOST_BYTES 16400
+/* The longest line: three runs, of which one is a supplement. */
+#define MOST_LINE (2 * MOST_BYTES + 200)
+
+static uint8_t runs[MOST_RUNS][MOST_BYTES];
+static uint8_t output[BUFFER];
+
+static size_t number_at(const char *text, size_t digits)
+{
+    char copy[9] = "";
+    memcpy(copy, text, digits);
+    return strtoul(copy, NULL, 16);
+}
+
+/* Puts the bytes that the text spells in the i-th run of the request. */
+static void take_run(struct request *request, size_t i, const char *text, size_t length)
+{
+    for (size_t at = 0; at < length; at++)
+        runs[i][at] = (uint8_t)number_at(text + 2 * at, 2);
+    request->in[i] = (struct run){runs[i], length};
+}
+
+/* A call, R or W, then three runs of fixed columns and the length lent. */
+static void frame_case(const char *line, struct request *request)
+{
+    request->call = line[0] == 'R' ? CALL_READ : CALL_WRITE;
+    for (size_t i = 0; i < MOST_RUNS; i++)
+        take_run(request, i, line + 5 + 36 * i, number_at(line + 2 + 36 * i, 2));
+    request->out_length = number_at(line + 110, 2);
+}
+
+static void supplement_case(const char *line, struct request *request)
+{
+    request->call = CALL_CHECK;
+    take_run(request, 0, line + 5, number_at(line, 4));
+}
+
+/* Three runs, each behind its length, and the length lent. */
+static void report_case(const char *line, struct request *request)
+{
+    request->call = CALL_REPORT;
+    for (size_t i = 0; i < MOST_RUNS; i++) {
+        size_t length = number_at(line, 4);
+        take_run(request, i, line + 5, length);
+        line += 5 + 2 * length + 1;
+    }
+    request->out_length = number_at(line, 4);
+}
+
+static size_t visit_file(const char *crates, const char *name,
+                         void (*parse)(const char *, struct request *), visit *visitor, void *state)
+{
+    static char line[MOST_LINE];
+    char path[4096], where[4200];
+    size_t cases = 0;
+    snprintf(path, sizeof path, "%s/%s/stdin", crates, name);
+    FILE *file = fopen(path, "r");
+    if (!file) {
+        perror(path);
+        exit(1);
+    }
+    while (fgets(line, sizeof line, file)) {
+        struct request request = {.out = output};
+        parse(line, &request);
+        snprintf(where, sizeof where, "%s, line %zu", path, ++cases);
+        visitor(&request, where, state);
+    }
+    fclose(file);
+    return cases;
+}
+
+size_t visit_vectors(const char *crates, visit *visitor, void *state)
+{
+    return visit_file(crates, "frame_vectors", frame_case, visitor, state) +
+           visit_file(crates, "supplement_vectors", supplement_case, visitor, state) +
+           visit_file(crates, "report_vectors", report_case, visitor, state) +
+           visit_file(crates, "bench_cases", report_case, visitor, state);
+}
