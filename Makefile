@@ -92,3 +92,4 @@ clean:
 	rm -rf build target
 
 include bench/bench.mk
+include fuzz/fuzz.mk

@@ -1,0 +1,63 @@
+#include "draft.h"
+
+#include "judge.h"
+
+uint8_t take_byte(struct feed *feed)
+{
+    if (feed->left == 0)
+        return 0;
+    feed->left--;
+    return *feed->bytes++;
+}
+
+uint16_t take_16(struct feed *feed)
+{
+    uint8_t high = take_byte(feed);
+    return (uint16_t)(high << 8 | take_byte(feed));
+}
+
+uint32_t take_32(struct feed *feed)
+{
+    uint16_t high = take_16(feed);
+    return (uint32_t)high << 16 | take_16(feed);
+}
+
+size_t take_length(struct feed *feed)
+{
+    uint8_t byte = take_byte(feed);
+    return byte < 0xF0 ? byte % 16 : (size_t)(byte - 0xEF) * 64;
+}
+
+void put(struct draft *draft, uint32_t number, size_t bytes)
+{
+    for (size_t i = bytes; i > 0 && draft->length < sizeof draft->bytes; i--)
+        draft->bytes[draft->length++] = (uint8_t)(number >> 8 * (i - 1));
+}
+
+void put_run(struct draft *draft, struct feed *feed, size_t length)
+{
+    for (size_t i = 0; i < length; i++)
+        put(draft, take_byte(feed), 1);
+}
+
+static void seal(struct draft *draft)
+{
+    if (draft->length == 0)
+        return;
+    size_t last = draft->length - 1;
+    draft->bytes[last] = judge_check_byte(draft->bytes, last);
+}
+
+void draft_frame(struct feed *feed, struct draft *first, struct draft *response)
+{
+    put_run(first, feed, take_length(feed));
+    put_run(response, feed, take_length(feed));
+}
+
+void seal_frame(uint8_t flags, struct draft *first, struct draft *response)
+{
+    if (flags & SEALED)
+        seal(first);
+    if (flags & RESPONSE_SEALED)
+        seal(response);
+}

@@ -1,0 +1,58 @@
+/* draft.h: the bytes of a fuzz input turned into a request. Damage to the
+ * bytes mostly gives another request of the same shape: records with fields in
+ * their ranges, frames with right check bytes. */
+#ifndef DRAFT_H
+#define DRAFT_H
+
+#include "calls.h"
+#include "lent.h"
+
+#include <stdbool.h>
+
+/* What is left of an input. */
+struct feed {
+    const uint8_t *bytes;
+    size_t left;
+};
+
+/* The next byte; 0 once there is none. */
+uint8_t take_byte(struct feed *feed);
+uint16_t take_16(struct feed *feed);
+uint32_t take_32(struct feed *feed);
+
+/* A run under way. It takes what fits. */
+struct draft {
+    uint8_t bytes[MOST_LENT_BYTES - GUARD_BYTES];
+    size_t length;
+};
+
+void put(struct draft *draft, uint32_t number, size_t bytes);
+void put_run(struct draft *draft, struct feed *feed, size_t length);
+
+/* A length: nearly always up to 15, now and then up to 1,024. */
+size_t take_length(struct feed *feed);
+
+/* Both runs of a frame, each behind its length. */
+void draft_frame(struct feed *feed, struct draft *first, struct draft *response);
+
+/* Gives the first run, the response or both a right check byte at the end. */
+#define SEALED 1
+#define RESPONSE_SEALED 2
+void seal_frame(uint8_t flags, struct draft *first, struct draft *response);
+
+/* A supplement, as fuzz/supplement.c says. */
+void draft_supplement(struct feed *feed, struct draft *supplement);
+
+/* Takes out each record with a fault, so that the supplement is accepted. */
+void mend(struct draft *supplement);
+
+/* Gives the first run the header and selector of a layout of the supplement,
+ * if it has one and the run has room. */
+void seek_layout(struct feed *feed, const struct draft *supplement, struct draft *first);
+
+/* Each target turns the feed into the runs of its call and answers the length
+ * of the output that is lent. */
+extern const enum call target_call;
+size_t draft_runs(struct feed *feed, struct draft runs[MOST_RUNS]);
+
+#endif

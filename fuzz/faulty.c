@@ -1,0 +1,65 @@
+/* Stands in for the archive with a fault in its report, which the replay has to
+ * see: FAULT in the environment says which, 0 for none. */
+#include "calls.h"
+#include "decoder.h"
+#include "rakhubole.h"
+
+#include <stdlib.h>
+
+enum fault {
+    NO_FAULT,
+    OTHER_ANSWER,
+    OTHER_ROW,
+    READ_BEHIND_RUN,
+    READ_BEFORE_RUN,
+    WRITTEN_BEHIND_OUTPUT,
+    WRITTEN_BEFORE_OUTPUT,
+    INPUT_CHANGED,
+    REFUSED_BUT_WRITTEN
+};
+
+static enum fault fault(void)
+{
+    const char *number = getenv("FAULT");
+    return number ? (enum fault)atoi(number) : NO_FAULT;
+}
+
+/* Reads the byte at a place of a run that has bytes. Not watched by the
+ * sanitizer, as the archive is not. */
+__attribute__((no_sanitize("address", "undefined"))) static uint8_t
+byte_of(const uint8_t *run, size_t length, ptrdiff_t place)
+{
+    return length ? *(const volatile uint8_t *)(run + place) : 0;
+}
+
+__attribute__((no_sanitize("address", "undefined"))) static void
+set_byte_of(const uint8_t *run, size_t length, ptrdiff_t place)
+{
+    if (length)
+        *(volatile uint8_t *)((uintptr_t)run + (uintptr_t)place) ^= 0xFF;
+}
+
+static uint64_t faulty_report(const uint8_t *supplement, size_t supplement_length,
+                              const uint8_t *first, size_t first_length, const uint8_t *response,
+                              size_t response_length, uint8_t *out, size_t out_length)
+{
+    uint64_t answer = decoder_report(supplement, supplement_length, first, first_length, response,
+                                     response_length, out, out_length);
+    int accepted = RAKHUBOLE_REFUSAL(answer) == 0;
+    switch (fault()) {
+    case OTHER_ANSWER: return answer + accepted;
+    case OTHER_ROW: set_byte_of(out, accepted, 0); break;
+    case READ_BEHIND_RUN: byte_of(first, first_length, (ptrdiff_t)first_length); break;
+    case READ_BEFORE_RUN: byte_of(first, first_length, -1); break;
+    case WRITTEN_BEHIND_OUTPUT: set_byte_of(out, out_length, (ptrdiff_t)out_length); break;
+    case WRITTEN_BEFORE_OUTPUT: set_byte_of(out, out_length, -1); break;
+    case INPUT_CHANGED: set_byte_of(supplement, supplement_length, 0); break;
+    case REFUSED_BUT_WRITTEN: set_byte_of(out, !accepted && out_length, 0); break;
+    default: break;
+    }
+    return answer;
+}
+
+const struct calls archive_calls = {
+    "faulty", decoder_read, decoder_write, decoder_check, faulty_report,
+};

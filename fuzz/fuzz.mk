@@ -1,0 +1,68 @@
+# Fuzz targets, one for each exported call, judged by the second program. `make fuzz SECONDS=600` runs each for that time;
+# `make fuzz-replay` runs the committed inputs through the same code and needs no libFuzzer.
+
+FUZZ := build/fuzz
+FUZZ_CALLS := read write check report
+JUDGE := build/judge/release/libjudge.a
+CLANG := clang
+SECONDS := 60
+
+FUZZ_SOURCES := $(addprefix fuzz/,target.c draft.c supplement.c lent.c classes.c judge.c) bench/calls.c $(DECODER_SOURCES)
+FUZZ_NEEDS := $(FUZZ_SOURCES) bench/archive.c $(wildcard fuzz/*.h bench/*.h) $(BENCH)/sae_rows.h include/rakhubole.h $(JUDGE) archive
+FUZZ_CFLAGS := $(BENCH_CFLAGS) -Ifuzz -g -fno-sanitize-recover=all
+JUDGE_LIBRARIES := $(JUDGE) -lpthread -ldl -lm
+FUZZ_LIBRARIES := bench/archive.c $(ARCHIVE) $(JUDGE_LIBRARIES)
+
+.PHONY: judge fuzz fuzz-replay fuzz-faults fuzz-corpus
+
+$(JUDGE): judge
+
+# The second program as a static library with the calls of rakhubole.h.
+judge:
+	cd fuzz/judge && CARGO_TARGET_DIR=$(CURDIR)/build/judge cargo build --offline --release
+
+$(FUZZ)/%-replay: fuzz/%.c fuzz/replay.c $(FUZZ_NEEDS)
+	@mkdir -p $(FUZZ)
+	$(CC) $(FUZZ_CFLAGS) -fsanitize=address,undefined $< fuzz/replay.c $(FUZZ_SOURCES) $(FUZZ_LIBRARIES) -o $@
+
+$(FUZZ)/%-fuzz: fuzz/%.c fuzz/fuzzer_counts.c $(FUZZ_NEEDS)
+	@mkdir -p $(FUZZ)
+	$(CLANG) $(FUZZ_CFLAGS) -fsanitize=fuzzer,address,undefined $< fuzz/fuzzer_counts.c $(FUZZ_SOURCES) $(FUZZ_LIBRARIES) -o $@
+
+checks: fuzz-replay fuzz-faults
+
+fuzz-replay: $(FUZZ_CALLS:%=$(FUZZ)/%-replay)
+	for call in $(FUZZ_CALLS); do $(FUZZ)/$$call-replay fuzz/corpus/$$call || exit 1; done
+
+# The replay fails for each of these faults in a call, and for none of them passes.
+$(FUZZ)/faulty-replay: fuzz/faulty.c fuzz/report.c fuzz/replay.c $(FUZZ_NEEDS)
+	@mkdir -p $(FUZZ)
+	$(CC) $(FUZZ_CFLAGS) -fsanitize=address,undefined fuzz/faulty.c fuzz/report.c fuzz/replay.c $(FUZZ_SOURCES) $(JUDGE_LIBRARIES) -o $@
+
+fuzz-faults: $(FUZZ)/faulty-replay
+	FAULT=0 $< fuzz/corpus/report > $(FUZZ)/fault-0.log
+	for fault in 1 2 3 4 5 6 7 8; do \
+		if FAULT=$$fault $< fuzz/corpus/report > $(FUZZ)/fault-$$fault.log 2>&1; then \
+			echo "fault $$fault was not seen"; exit 1; \
+		fi; \
+	done
+
+# New inputs stay in build/; one that fails is named there too.
+fuzz: $(FUZZ_CALLS:%=$(FUZZ)/%-fuzz)
+	for call in $(FUZZ_CALLS); do \
+		mkdir -p $(FUZZ)/corpus/$$call; \
+		$(FUZZ)/$$call-fuzz -max_total_time=$(SECONDS) -max_len=1024 -print_final_stats=1 -verbosity=0 \
+			-artifact_prefix=$(FUZZ)/$$call- $(FUZZ)/corpus/$$call fuzz/corpus/$$call || exit 1; \
+	done
+
+# The inputs of build/ and of the vectors, of which as few are kept as reach all that was reached.
+fuzz-corpus: $(FUZZ_CALLS:%=$(FUZZ)/%-fuzz)
+	rm -rf $(FUZZ)/seeds $(FUZZ)/merged
+	fuzz/seeds.py crates $(FUZZ)/seeds
+	for call in $(FUZZ_CALLS); do \
+		mkdir -p $(FUZZ)/merged/$$call $(FUZZ)/corpus/$$call fuzz/corpus/$$call; \
+		$(FUZZ)/$$call-fuzz -set_cover_merge=1 -max_len=1024 $(FUZZ)/merged/$$call \
+			fuzz/corpus/$$call $(FUZZ)/corpus/$$call $(FUZZ)/seeds/$$call > $(FUZZ)/merge.log 2>&1 || exit 1; \
+		rm -rf fuzz/corpus/$$call; \
+		cp -r $(FUZZ)/merged/$$call fuzz/corpus/$$call; \
+	done

@@ -1,0 +1,99 @@
+#!/usr/bin/env python3
+"""First inputs for the fuzz targets: the vector files in the form that the targets read.
+
+    seeds.py CRATES FOLDER    writes FOLDER/CALL/NUMBER for each case that is short enough
+
+A case gives an input that holds its bytes as they are. Where the target has flags that keep a damaged
+copy acceptable, it gives a second one with them, and with a step for each record of a supplement.
+"""
+import pathlib
+import sys
+
+MOST_SEED = 400
+MOST_LENGTH = 15                  # of a run behind a short length
+ANY_HEADER_LENGTH = 1
+SEALED = 3
+SEALED_AND_MENDED = 7
+SLOT, PRN, LAYOUT, RAW_BYTES = 1, 2, 3, 4
+RECORD_LENGTHS = {SLOT: 21, PRN: 7, LAYOUT: 38}
+END = b"\0"
+
+
+def short_run(run):
+    if len(run) > MOST_LENGTH:
+        raise ValueError("run too long")
+    return bytes([len(run)]) + run
+
+
+def raw_steps(run):
+    pieces = [run[at:at + 255] for at in range(0, len(run), 255)]
+    return b"".join(bytes([RAW_BYTES, len(piece)]) + piece for piece in pieces) + END
+
+
+def record_step(record):
+    """The step that puts this record, if its fields are in range."""
+    if record[0] == LAYOUT:
+        prns = b"".join(END + record[at:at + 2] for at in range(6, 6 + 2 * min(record[5], 16), 2))
+        return record[:4] + record[4:5] * min(record[3], 1) + record[5:6] + prns
+    form = 1 if record[0] == SLOT else 3
+    counted_from_0 = bytes([record[form] - 1 & 255, record[form + 1] - 1 & 255])
+    return record[:form] + counted_from_0 + record[form + 2:]
+
+
+def record_steps(run):
+    steps, at = b"", 0
+    while at < len(run):
+        length = RECORD_LENGTHS.get(run[at], 1)
+        if length == 1 or at + length > len(run):
+            return steps + raw_steps(run[at:])
+        steps += record_step(run[at:at + length])
+        at += length
+    return steps + END
+
+
+def columns(line):
+    """The three runs of a frame case, and the length lent."""
+    runs = [bytes.fromhex(line[at + 3:at + 3 + 2 * int(line[at:at + 2], 16)]) for at in (2, 38, 74)]
+    return runs, int(line[110:112], 16)
+
+
+def frame_seeds(line):
+    runs, lent = columns(line)
+    if line[0] == "R":
+        frame = short_run(runs[0]) + short_run(runs[1])
+        return "read", [END + frame, bytes([SEALED]) + frame]
+    header = bytes([ANY_HEADER_LENGTH]) + b"".join(map(short_run, runs))
+    return "write", [header + bytes([min(lent, MOST_LENGTH)])]
+
+
+def supplement_seeds(line):
+    supplement = bytes.fromhex(line[5:])
+    return "check", [raw_steps(supplement), record_steps(supplement)]
+
+
+def report_seeds(line):
+    words = line.split(" ")
+    supplement, first, response = (bytes.fromhex(words[at]) for at in (1, 3, 5))
+    frame = bytes([int(words[6], 16)]) + short_run(first) + short_run(response)
+    return "report", [END + frame + raw_steps(supplement),
+                      bytes([SEALED_AND_MENDED]) + frame + record_steps(supplement)]
+
+
+def main():
+    crates, folder = map(pathlib.Path, sys.argv[1:])
+    makers = {"frame_vectors": frame_seeds, "supplement_vectors": supplement_seeds,
+              "report_vectors": report_seeds}
+    for name, make in makers.items():
+        for number, line in enumerate((crates / name / "stdin").read_text().splitlines()):
+            try:
+                call, seeds = make(line)
+            except ValueError:
+                continue
+            (folder / call).mkdir(parents=True, exist_ok=True)
+            for i, seed in enumerate(seeds):
+                if len(seed) <= MOST_SEED:
+                    (folder / call / f"{number:05}-{i}").write_bytes(seed)
+
+
+if __name__ == "__main__":
+    main()

@@ -1,0 +1,263 @@
+/* Supplements from the bytes of a fuzz input: one step after the other, each a
+ * byte of which the low three bits say what it adds or damages. */
+#include "draft.h"
+
+#include "judge.h"
+#include "rakhubole.h"
+#include "rows.h"
+#include "sae_rows.h"
+
+#include <string.h>
+
+#define MOST_SUPPLEMENT 16384
+/* Records that are taken out one by one; behind the next fault all is. */
+#define MOST_FAULTS 50
+#define COUNT(array) (sizeof(array) / sizeof((array)[0]))
+
+enum step { END, SLOT, PRN, LAYOUT, RAW_BYTES, PRN_RUN, SLOT_RUN, DAMAGE };
+
+/* Where a key comes from: bits 3 and 4 of a step. Where the SLOT of a PRN
+ * comes from: bits 5 and 6. */
+enum origin { FROM_FEED, FROM_RECORD, FROM_SAE, FROM_FEED_TOO };
+#define KEY_ORIGIN(step) ((enum origin)((step) >> 3 & 3))
+#define SLOT_ORIGIN(step) ((enum origin)((step) >> 5 & 3))
+/* Of a SLOT: every raw number lies within the limits. */
+#define WITHOUT_LIMITS 0x20
+/* Of a SLOT: the key is one that a PRN names. */
+#define WANTED 0x40
+
+#define SNM 2
+
+struct slot_key {
+    uint8_t form;
+    uint8_t width;
+    uint16_t number;
+};
+
+/* By kind, which is the step that puts one; 1 for an unknown kind. */
+static const size_t record_lengths[] = {1, 21, 7, 38};
+
+/* The bytes of the record at a place, and no more than there are. */
+static size_t record_length(const struct draft *draft, size_t place)
+{
+    uint8_t kind = draft->bytes[place];
+    size_t length = record_lengths[kind <= LAYOUT ? kind : 0], left = draft->length - place;
+    return length < left ? length : left;
+}
+
+/* Some whole record of that kind among those put so far, or NULL. */
+static const uint8_t *some_record(struct feed *feed, const struct draft *draft, enum step kind)
+{
+    const uint8_t *found = NULL;
+    size_t passed = 0, wanted = take_byte(feed), place = 0;
+    while (place < draft->length && passed <= wanted) {
+        size_t length = record_length(draft, place);
+        if (draft->bytes[place] == kind && length == record_lengths[kind]) {
+            found = draft->bytes + place;
+            passed++;
+        }
+        place += length;
+    }
+    return found;
+}
+
+static uint16_t number_at(const uint8_t *bytes)
+{
+    return (uint16_t)(bytes[0] << 8 | bytes[1]);
+}
+
+static uint16_t sae_prn(struct feed *feed)
+{
+    return sae_prns[take_16(feed) % COUNT(sae_prns)].prn;
+}
+
+static struct slot_key key_from_feed(struct feed *feed)
+{
+    uint8_t form = (uint8_t)(1 + take_byte(feed) % 9);
+    uint8_t width = (uint8_t)(1 + take_byte(feed) % 64);
+    return (struct slot_key){form, width, take_16(feed)};
+}
+
+/* The key of a SLOT: a new one, that of a record, of an SAE row, or one that a
+ * PRN record names. */
+static struct slot_key slot_key(struct feed *feed, const struct draft *draft, enum origin origin,
+                                bool wanted)
+{
+    const uint8_t *record;
+    if (origin == FROM_SAE) {
+        const struct slot_row *row = &sae_slots[take_byte(feed) % COUNT(sae_slots)];
+        return (struct slot_key){row->form, row->width, row->number};
+    }
+    if (wanted && (record = some_record(feed, draft, PRN)))
+        return (struct slot_key){record[3], record[4], number_at(record + 5)};
+    if (origin == FROM_RECORD && (record = some_record(feed, draft, SLOT)))
+        return (struct slot_key){record[1], record[2], number_at(record + 3)};
+    return key_from_feed(feed);
+}
+
+static void put_slot_key(struct draft *draft, struct slot_key key)
+{
+    put(draft, key.form, 1);
+    put(draft, key.width, 1);
+    put(draft, key.number, 2);
+}
+
+/* In order, as signed for SNM. */
+static void put_limits(struct draft *draft, uint8_t form, uint32_t one, uint32_t other)
+{
+    uint32_t raised = form == SNM ? 0x80000000u : 0;
+    bool in_order = (one ^ raised) <= (other ^ raised);
+    put(draft, in_order ? one : other, 4);
+    put(draft, in_order ? other : one, 4);
+}
+
+static void put_slot(struct feed *feed, struct draft *draft, uint8_t step)
+{
+    struct slot_key key = slot_key(feed, draft, KEY_ORIGIN(step), step & WANTED);
+    uint16_t multiplier = take_16(feed), divisor = take_16(feed);
+    put(draft, SLOT, 1);
+    put_slot_key(draft, key);
+    put(draft, multiplier, 2);
+    put(draft, divisor ? divisor : 1, 2);
+    put(draft, take_32(feed), 4);
+    uint32_t one = key.form == SNM ? 0x80000000u : 0, other = one - 1;
+    if (!(step & WITHOUT_LIMITS)) {
+        one = take_32(feed);
+        other = take_32(feed);
+    }
+    put_limits(draft, key.form, one, other);
+}
+
+/* A PRN: a new one, that of a record, or of an SAE row. */
+static uint16_t prn_key(struct feed *feed, const struct draft *draft, enum origin origin)
+{
+    const uint8_t *record;
+    if (origin == FROM_SAE)
+        return sae_prn(feed);
+    if (origin == FROM_RECORD && (record = some_record(feed, draft, PRN)))
+        return number_at(record + 1);
+    return take_16(feed);
+}
+
+static void put_prn(struct feed *feed, struct draft *draft, uint8_t step)
+{
+    uint16_t prn = prn_key(feed, draft, KEY_ORIGIN(step));
+    struct slot_key key = slot_key(feed, draft, SLOT_ORIGIN(step), false);
+    put(draft, PRN, 1);
+    put(draft, prn, 2);
+    put_slot_key(draft, key);
+}
+
+static void put_layout_key(struct feed *feed, struct draft *draft, enum origin origin)
+{
+    const uint8_t *record;
+    if (origin == FROM_RECORD && (record = some_record(feed, draft, LAYOUT))) {
+        put(draft, (uint32_t)number_at(record + 1) << 16 | number_at(record + 3), 4);
+        return;
+    }
+    uint8_t first_byte = take_byte(feed), target = take_byte(feed), present = take_byte(feed) % 4;
+    bool one_byte = first_byte & 0x10;
+    put(draft, one_byte ? first_byte : first_byte & 0x1F, 1);
+    put(draft, one_byte ? 0 : target, 1);
+    put(draft, present != 0, 1);
+    put(draft, present != 0 ? take_byte(feed) : 0, 1);
+}
+
+/* The origin of each PRN stands in the low bits of a byte before it. */
+static void put_layout(struct feed *feed, struct draft *draft, uint8_t step)
+{
+    put(draft, LAYOUT, 1);
+    put_layout_key(feed, draft, KEY_ORIGIN(step));
+    uint8_t count = take_byte(feed) % 17;
+    put(draft, count, 1);
+    for (uint8_t i = 0; i < 16; i++)
+        put(draft, i < count ? prn_key(feed, draft, (enum origin)(take_byte(feed) & 3)) : 0, 2);
+}
+
+/* Records with keys that rise by a step; a few such runs fill a supplement. */
+static void put_prn_run(struct feed *feed, struct draft *draft)
+{
+    uint16_t prn = take_16(feed), rise = take_byte(feed);
+    size_t count = take_length(feed);
+    struct slot_key key = key_from_feed(feed);
+    for (size_t i = 0; i < count; i++) {
+        put(draft, PRN, 1);
+        put(draft, prn, 2);
+        put_slot_key(draft, key);
+        prn = (uint16_t)(prn + rise);
+    }
+}
+
+static void put_slot_run(struct feed *feed, struct draft *draft)
+{
+    struct slot_key key = key_from_feed(feed);
+    uint16_t rise = take_byte(feed);
+    size_t count = take_length(feed);
+    for (size_t i = 0; i < count; i++) {
+        put(draft, SLOT, 1);
+        put_slot_key(draft, key);
+        put(draft, 0x00010001, 4);
+        put(draft, 0, 4);
+        put_limits(draft, key.form, 0, 255);
+        key.number = (uint16_t)(key.number + rise);
+    }
+}
+
+/* Another byte at some place, or the end cut off. */
+static void damage(struct feed *feed, struct draft *draft, uint8_t step)
+{
+    uint16_t place = take_16(feed);
+    if (draft->length == 0)
+        return;
+    if (step & 0x08)
+        draft->length -= place % draft->length;
+    else
+        draft->bytes[place % draft->length] = take_byte(feed);
+}
+
+void draft_supplement(struct feed *feed, struct draft *supplement)
+{
+    uint8_t step;
+    while ((step = take_byte(feed)) % 8 != END) {
+        switch ((enum step)(step % 8)) {
+        case SLOT: put_slot(feed, supplement, step); break;
+        case PRN: put_prn(feed, supplement, step); break;
+        case LAYOUT: put_layout(feed, supplement, step); break;
+        case RAW_BYTES: put_run(supplement, feed, take_byte(feed)); break;
+        case PRN_RUN: put_prn_run(feed, supplement); break;
+        case SLOT_RUN: put_slot_run(feed, supplement); break;
+        default: damage(feed, supplement, step); break;
+        }
+    }
+}
+
+void mend(struct draft *supplement)
+{
+    uint64_t answer;
+    if (supplement->length > MOST_SUPPLEMENT)
+        supplement->length = MOST_SUPPLEMENT;
+    for (size_t faults = 0;
+         (answer = judge_calls.check(supplement->bytes, supplement->length)) != 0; faults++) {
+        size_t place = RAKHUBOLE_PLACE(answer), left = supplement->length - place;
+        size_t taken = faults < MOST_FAULTS ? record_length(supplement, place) : left;
+        memmove(supplement->bytes + place, supplement->bytes + place + taken, left - taken);
+        supplement->length -= taken;
+    }
+}
+
+void seek_layout(struct feed *feed, const struct draft *supplement, struct draft *first)
+{
+    const uint8_t *layout = some_record(feed, supplement, LAYOUT);
+    if (!layout)
+        return;
+    bool one_byte = layout[1] & 0x10;
+    uint8_t *bytes = first->bytes;
+    size_t selector = one_byte ? 1 : 3;
+    if (first->length <= selector)
+        return;
+    bytes[0] = one_byte ? layout[1] : layout[1] | (bytes[0] & 0xE0);
+    if (!one_byte)
+        bytes[1] = layout[2];
+    if (layout[3])
+        bytes[selector] = layout[4];
+}

@@ -1,0 +1,88 @@
+/* One fuzz input: the request that it makes, judged. */
+#include "target.h"
+
+#include "classes.h"
+#include "draft.h"
+#include "judge.h"
+#include "lent.h"
+
+#include <stdio.h>
+#include <stdlib.h>
+
+/* The longest output that a target lends. */
+#define MOST_OUT 1024
+
+/* What fills an output before the call. */
+static uint8_t filling(size_t i)
+{
+    return (uint8_t)(0x5A + i);
+}
+
+static void show_run(const char *name, const uint8_t *run, size_t length)
+{
+    printf("  %s, %zu bytes:", name, length);
+    for (size_t i = 0; i < length; i++)
+        printf(" %02X", run[i]);
+    printf("\n");
+}
+
+static void stop(const char *what, const struct calls *calls, const struct request *request,
+                 uint64_t expected, uint64_t given)
+{
+    printf("%s of %s: %s; the judge answers %016llX, it %016llX\n", call_names[request->call],
+           calls->name, what, (unsigned long long)expected, (unsigned long long)given);
+    for (size_t i = 0; i < runs_of(request->call); i++)
+        show_run("run", request->in[i].bytes, request->in[i].length);
+    printf("  output of %zu bytes\n", request->out_length);
+    fflush(stdout);
+    abort();
+}
+
+/* Lends everything in that placement, makes the call and compares the answer
+ * and all memory; `out` is what the output holds afterwards. */
+static void compare(const struct calls *calls, enum placement placement,
+                    const struct request *request, uint64_t expected, const uint8_t *out)
+{
+    uint8_t before[MOST_OUT];
+    struct lent lent[MOST_LENT];
+    struct request mine = *request;
+    for (size_t i = 0; i < request->out_length; i++)
+        before[i] = filling(i);
+    for (size_t i = 0; i < MOST_RUNS; i++) {
+        lent[i] = lend(i, placement, request->in[i].bytes, request->in[i].length);
+        mine.in[i].bytes = lent[i].run;
+    }
+    lent[MOST_RUNS] = lend(MOST_RUNS, placement, before, request->out_length);
+    mine.out = lent[MOST_RUNS].run;
+    uint64_t given = answer_of(calls, &mine);
+    if (given != expected)
+        stop("another answer", calls, request, expected, given);
+    if (!is_as_expected(&lent[MOST_RUNS], out))
+        stop("other output, or a byte beside it touched", calls, request, expected, given);
+    for (size_t i = 0; i < MOST_RUNS; i++)
+        if (!is_as_expected(&lent[i], request->in[i].bytes))
+            stop("an input, or a byte beside it touched", calls, request, expected, given);
+    for (size_t i = 0; i < MOST_LENT; i++)
+        take_back(&lent[i]);
+}
+
+int LLVMFuzzerTestOneInput(const uint8_t *bytes, size_t size)
+{
+    static struct draft runs[MOST_RUNS];
+    static uint8_t out[MOST_OUT];
+    struct feed feed = {bytes, size};
+    struct request request = {.call = target_call, .out = out};
+    for (size_t i = 0; i < MOST_RUNS; i++)
+        runs[i].length = 0;
+    request.out_length = draft_runs(&feed, runs);
+    for (size_t i = 0; i < MOST_RUNS; i++)
+        request.in[i] = (struct run){runs[i].bytes, runs[i].length};
+    for (size_t i = 0; i < MOST_OUT; i++)
+        out[i] = filling(i);
+    uint64_t expected = answer_of(&judge_calls, &request);
+    for (int placement = 0; placement < PLACEMENTS; placement++)
+        compare(&archive_calls, (enum placement)placement, &request, expected, out);
+    compare(&decoder_calls, IN_BLOCK, &request, expected, out);
+    count_classes(&request, expected, out);
+    return 0;
+}
