@@ -13,7 +13,7 @@ FUZZ_CFLAGS := $(BENCH_CFLAGS) -Ifuzz -g -fno-sanitize-recover=all
 JUDGE_LIBRARIES := $(JUDGE) -lpthread -ldl -lm
 FUZZ_LIBRARIES := bench/archive.c $(ARCHIVE) $(JUDGE_LIBRARIES)
 
-.PHONY: judge fuzz fuzz-replay fuzz-faults fuzz-corpus
+.PHONY: judge fuzz fuzz-replay fuzz-faults fuzz-corpus bit-errors
 
 $(JUDGE): judge
 
@@ -66,3 +66,13 @@ fuzz-corpus: $(FUZZ_CALLS:%=$(FUZZ)/%-fuzz)
 		rm -rf fuzz/corpus/$$call; \
 		cp -r $(FUZZ)/merged/$$call fuzz/corpus/$$call; \
 	done
+
+# Every bit of a sample of accepted frames flipped, judged by the second program.
+$(FUZZ)/bit_errors: fuzz/bit_errors.c $(FUZZ_NEEDS)
+	@mkdir -p $(FUZZ)
+	$(CC) $(BENCH_CFLAGS) -Ifuzz $< fuzz/judge.c bench/calls.c $(DECODER_SOURCES) $(FUZZ_LIBRARIES) -o $@
+
+checks: bit-errors
+
+bit-errors: $(FUZZ)/bit_errors
+	$(FUZZ)/bit_errors
