@@ -11,7 +11,7 @@
 
 #define MOST_SUPPLEMENT 16384
 /* Records that are taken out one by one; behind the next fault all is. */
-#define MOST_FAULTS 50
+#define MOST_FAULTS 10
 #define COUNT(array) (sizeof(array) / sizeof((array)[0]))
 
 enum step { END, SLOT, PRN, LAYOUT, RAW_BYTES, PRN_RUN, SLOT_RUN, DAMAGE };

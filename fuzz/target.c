@@ -11,6 +11,9 @@
 
 /* The longest output that a target lends. */
 #define MOST_OUT 1024
+/* The decoder written by hand takes long over a long supplement. It runs along
+ * because libFuzzer sees its branches, and not those of the archive. */
+#define MOST_FOR_DECODER 2048
 
 /* What fills an output before the call. */
 static uint8_t filling(size_t i)
@@ -82,7 +85,8 @@ int LLVMFuzzerTestOneInput(const uint8_t *bytes, size_t size)
     uint64_t expected = answer_of(&judge_calls, &request);
     for (int placement = 0; placement < PLACEMENTS; placement++)
         compare(&archive_calls, (enum placement)placement, &request, expected, out);
-    compare(&decoder_calls, IN_BLOCK, &request, expected, out);
+    if (request.in[0].length <= MOST_FOR_DECODER)
+        compare(&decoder_calls, IN_BLOCK, &request, expected, out);
     count_classes(&request, expected, out);
     return 0;
 }

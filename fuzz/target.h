@@ -5,9 +5,10 @@
 #include <stddef.h>
 #include <stdint.h>
 
-/* Makes a request of the bytes, has it answered by the archive and by the
- * decoder written by hand, in memory between guards, and stops the program if
- * one of them answers or leaves memory otherwise than the second program. */
+/* Makes a request of the bytes, has it answered by the archive in each
+ * placement of memory, and by the decoder written by hand, and stops the
+ * program if one of them answers or leaves memory otherwise than the second
+ * program. */
 int LLVMFuzzerTestOneInput(const uint8_t *bytes, size_t size);
 
 #endif
