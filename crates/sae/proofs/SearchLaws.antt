@@ -5,12 +5,14 @@ use mathlib.Core.Bool.{Bool, true, false, cond, _&&_, true≢false}
 use mathlib.Core.List.{List, [], _∷_, _++_, map, List·Memᴰ, List·Memᴰ·head, List·Memᴰ·tail, List·Memᴰ·cases-cons, List·Memᴰ·not-nil}
 use mathlib.Core.Option.{Option, none, some, orElse}
 use Prim.Native.Nat.{ℕ, zero, suc, _+_, _≤_, _<_}
-use native.Mathlib.Nat.{le-of-suc-le-suc, not-suc-le-zero}
+use native.Mathlib.Nat.{le-of-suc-le-suc, not-suc-le-zero, add-zero, add-suc, suc-add}
 use native.Mathlib.Omega.{arith}
-use borrow.Author.Tests.{ltb-true, ltb-false, lt-ltb, le-ltb, eq-eqb, ne-eqb, eqb-true}
-use lib.Dec.{eqb, ltb, leb·suc-suc}
-use lib.ListN.{length, getD, getElem?}
+use borrow.Author.Tests.{ltb-true, ltb-false, eq-eqb, ne-eqb, eqb-true}
+use lib.Dec.{eqb, ltb}
+use lib.ListN.{length, take, drop, getD, getElem?, take-append-drop}
+use lib.Seq.{drop-cons}
 use Rattle.frame.proofs.Bytes.{cases}
+use Rattle.sae.specs.Parts.{rowsFrom}
 use Rattle.sae.specs.Search.{firstWhere, keyIs, isFound, every, rising}
 
 pub both : (a b : Bool) → (a && b) ≡ true → (a ≡ true) × (b ≡ true)
@@ -76,6 +78,44 @@ every-is p (b ∷ l) e a m =
     let t = both (p b) (every p l) e in
     ⊎-elim (λ (h : a ≡ b). ap p h ∙ t .0) (λ (n : List·Memᴰ a l). every-is p l (t .1) a n) (List·Memᴰ·cases-cons m)
 
+-- Rows cut in three: where every key before the middle is too low and every key behind it too high, the middle is searched.
+or-none : {A : Type 0} (o : Option A) → orElse o none ≡ o
+unfolding orElse
+or-none none = refl
+or-none (some a) = refl
+
+pub in-part :
+    {A : Type 0} (key : A → ℕ) (rows : List A) (i n lowest highest k : ℕ)
+    → every (λ r. ltb (key r) lowest) (take i rows) ≡ true
+    → every (λ r. ltb highest (key r)) (drop n (drop i rows)) ≡ true
+    → lowest ≤ k
+    → k ≤ highest
+    → firstWhere (λ r. keyIs k (key r)) rows ≡ firstWhere (λ r. keyIs k (key r)) (take n (drop i rows))
+unfolding orElse
+in-part {A} key rows i n lowest highest k before behind low high =
+    ap search (sym (take-append-drop i rows) ∙ ap (λ (l : List A). take i rows ++ l) (sym (take-append-drop n (drop i rows))))
+    ∙ first-append test (take i rows) (take n (drop i rows) ++ drop n (drop i rows))
+    ∙ ap (λ (o : Option A). orElse o (search (take n (drop i rows) ++ drop n (drop i rows)))) none-before
+    ∙ first-append test (take n (drop i rows)) (drop n (drop i rows))
+    ∙ ap (orElse (search (take n (drop i rows)))) none-behind
+    ∙ or-none (search (take n (drop i rows)))
+  where
+    test : A → Bool
+    test r = keyIs k (key r)
+
+    search : List A → Option A
+    search = firstWhere test
+
+    none-before : search (take i rows) ≡ none
+    none-before =
+        none-found test (take i rows)
+        (λ r m. let h : key r < lowest = ltb-true (key r) lowest (every-is (λ q. ltb (key q) lowest) (take i rows) before r m) in ne-eqb (key r) k (λ e. omega arith))
+
+    none-behind : search (drop n (drop i rows)) ≡ none
+    none-behind =
+        none-found test (drop n (drop i rows))
+        (λ r m. let h : highest < key r = ltb-true highest (key r) (every-is (λ q. ltb highest (key q)) (drop n (drop i rows)) behind r m) in ne-eqb (key r) k (λ e. omega arith))
+
 -- The element at a place, and none past the end.
 pub elem-at : {A : Type 0} (l : List A) (i : ℕ) (d : A) → i < length l → getElem? l i ≡ some (getD l i d)
 elem-at [] i d h = absurd (not-suc-le-zero h)
@@ -86,6 +126,31 @@ pub elem-past : {A : Type 0} (l : List A) (i : ℕ) → length l ≤ i → getEl
 elem-past [] i h = refl
 elem-past (a ∷ l) zero h = absurd (not-suc-le-zero h)
 elem-past (a ∷ l) (suc i) h = elem-past l i (le-of-suc-le-suc h)
+
+-- Rows counted from a number on: the row at a place, none past the last, and their keys.
+module _ {A : Type 0} (row : ℕ → A) where
+  pub row-at : (i n j : ℕ) → j < n → getElem? (rowsFrom row i n) j ≡ some (row (i + j))
+  unfolding rowsFrom
+  row-at i zero j h = absurd (not-suc-le-zero h)
+  row-at i (suc n) zero h = ap (λ (k : ℕ). some (row k)) (sym (add-zero i))
+  row-at i (suc n) (suc j) h = row-at (suc i) n j (le-of-suc-le-suc h) ∙ ap (λ (k : ℕ). some (row k)) (suc-add i j ∙ sym (add-suc i j))
+
+  pub row-past : (i n j : ℕ) → n ≤ j → getElem? (rowsFrom row i n) j ≡ none
+  unfolding rowsFrom
+  row-past i zero j h = refl
+  row-past i (suc n) zero h = absurd (not-suc-le-zero h)
+  row-past i (suc n) (suc j) h = row-past (suc i) n j (le-of-suc-le-suc h)
+
+  pub row-keys :
+      (key : A → ℕ) (keys : List ℕ)
+      → ((j : ℕ) → key (row j) ≡ getD keys j 0)
+      → (i n : ℕ)
+      → i + n ≤ length keys
+      → map key (rowsFrom row i n) ≡ take n (drop i keys)
+  unfolding rowsFrom
+  row-keys key keys same i zero h = refl
+  row-keys key keys same i (suc n) h =
+      (λ k. same i k ∷ row-keys key keys same (suc i) n (omega arith) k) ∙ sym (ap (take (suc n)) (drop-cons keys i 0 (omega arith)))
 
 -- Among rising keys each is below all that follow.
 rising-rest : (a : ℕ) (l : List ℕ) → rising (a ∷ l) ≡ true → rising l ≡ true
@@ -198,13 +263,6 @@ pub place-missing :
     → ((i : ℕ) → i < length keys → getD keys i 0 ≡ k → ⊥)
     → getElem? keys i ≡ firstWhere (keyIs k) keys
 place-missing keys k i h n = elem-past keys i h ∙ sym (no-key keys k n)
-
--- Something is found at a place exactly when the place is within the list.
-pub found-within : {A : Type 0} (l : List A) (i : ℕ) → isFound (getElem? l i) ≡ ltb i (length l)
-unfolding isFound
-found-within [] i = sym (le-ltb i 0 (omega arith))
-found-within (a ∷ l) zero = sym (lt-ltb 0 (length (a ∷ l)) (omega arith))
-found-within (a ∷ l) (suc i) = found-within l i ∙ sym (leb·suc-suc (suc i) (length l))
 
 -- By the two answers: something was found, or nothing.
 pub is-found : {A : Type 0} (o : Option A) → isFound o ≡ true → (a : A) × (o ≡ some a)

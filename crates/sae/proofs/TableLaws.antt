@@ -1,21 +1,23 @@
 -- Laws of the SAE tables: their rule by one computed test, and what it gives at each row.
-use mathlib.Core.Path.{_≡_, refl, sym, _∙_}
+use mathlib.Core.Path.{_≡_, refl, sym, ap, _∙_}
 use mathlib.Core.Bool.{true, _&&_, true≢false}
 use mathlib.Core.List.{List, map}
-use mathlib.Core.Option.{some}
-use Prim.Native.Nat.{ℕ, _^_, _≤_, _<_}
+use mathlib.Core.Option.{none, some}
+use Prim.Native.Nat.{ℕ, _+_, _/_, _%_, _^_, _≤_, _<_}
+use native.Mathlib.Nat.{zero-add}
 use native.Mathlib.Omega.{arith}
 use borrow.Author.Tests.{leb-true, ltb-true, eqb-true, eq-eqb, ne-eqb}
 use lib.Dec.{eqb, leb, ltb}
-use lib.ListN.{length, getD, getElem?, List·getD-map}
+use lib.ListN.{length, take, drop, getD, getElem?}
 use Rattle.sae.specs.declared.sae.PrnRow.{PrnRow}
 use Rattle.sae.specs.declared.sae.SlotRow.{SlotRow}
 use Rattle.sae.specs.Rows.{prn, slot, inOrder, keyFits, prnFits, slotFits, prnSized, slotSized}
 use Rattle.sae.specs.Tables.{prnRows, slotRows}
 use Rattle.sae.specs.Search.{firstWhere, keyIs, every, rising}
 use Rattle.sae.specs.Sae.{prnIs, slotIs, saePrn, saeSlot, packed, prnKey, slotKey, tablesHold}
+use Rattle.sae.specs.Parts.{prnAt, prnsIn, PrnPart, slotAt, slotsIn, SlotPart}
 use Rattle.frame.proofs.Bytes.{cases}
-use Rattle.sae.proofs.SearchLaws.{both, found-is, first-same, every-is, elem-at, by-key}
+use Rattle.sae.proofs.SearchLaws.{both, found-is, first-same, every-is, in-part, row-at, row-past, row-keys, by-key}
 
 -- The rule of both tables: document 01, "One statement over the whole table gives its order and ranges".
 pub tables-hold : tablesHold ≡ true
@@ -169,80 +171,72 @@ packed-is a b c f w n hb hc hw hn =
     eqb-same : {x y : ℕ} → x ≡ y → eqb x y ≡ true
     eqb-same {x} {y} e = eq-eqb x y e
 
--- The place of a key among the keys is the place of the row.
-pub prn-placed :
-    (p place : ℕ)
-    → getElem? (map prnKey prnRows) place ≡ firstWhere (keyIs p) (map prnKey prnRows)
-    → getElem? prnRows place ≡ saePrn p
+-- Where the other PRNs are too low or too high, a part of the table is searched in place of the whole.
+pub prn-same :
+    (i n lowest highest p : ℕ)
+    → every (λ r. ltb (prnKey r) lowest) (take i prnRows) ≡ true
+    → every (λ r. ltb highest (prnKey r)) (drop n (drop i prnRows)) ≡ true
+    → lowest ≤ p
+    → p ≤ highest
+    → firstWhere (prnIs p) (take n (drop i prnRows)) ≡ saePrn p
 unfolding saePrn
-prn-placed p place e = by-key prnKey prnRows p place (rule .prn-rising) e
+prn-same i n lowest highest p before behind low high = sym (in-part prnKey prnRows i n lowest highest p before behind low high)
 
-pub slot-placed :
-    (f w n place : ℕ)
-    → w < 256
-    → n < 65536
-    → getElem? (map slotKey slotRows) place ≡ firstWhere (keyIs (packed f w n)) (map slotKey slotRows)
-    → getElem? slotRows place ≡ saeSlot f w n
+-- A SLOT is sought by its packed key.
+slot-keyed : (f w n : ℕ) → w < 256 → n < 65536 → firstWhere (λ r. keyIs (packed f w n) (slotKey r)) slotRows ≡ saeSlot f w n
 unfolding saeSlot
-slot-placed f w n place hw hn e =
-    by-key slotKey slotRows (packed f w n) place (rule .slot-rising) e
-    ∙ first-same (λ r. keyIs (packed f w n) (slotKey r)) (slotIs f w n) slotRows
+slot-keyed f w n hw hn =
+    first-same (λ r. keyIs (packed f w n) (slotKey r)) (slotIs f w n) slotRows
     (λ r m.
     let s = slot-sizes r (every-is slotSized slotRows (rule .slot-sized) r m) in
     let t = slot-ranges r (every-is slotFits slotRows (rule .slot-fits) r m) in
     packed-is (r .form) (r .width) (r .number) f w n (omega (arith, t .key .width-most)) (omega (arith, s .number)) hw hn)
 
--- A column of a table at a place, as the code holds it.
-abbrev pub column : {A : Type 0} → (A → ℕ) → List A → ℕ → ℕ
-column field rows at = getD (map field rows) at 0
+-- A part with a PRN's row, if there is one: the row stands at the place of the PRN.
+module _ (words : List ℕ) (p at : ℕ) (part : PrnPart p words) (placed : getElem? (take 11 words) at ≡ firstWhere (keyIs p) (take 11 words)) where
+  prn-keys : map prnKey (prnsIn words) ≡ take 11 words
+  prn-keys = row-keys (prnAt words) prnKey words (λ j. refl) 0 11 (omega (arith, part .size))
 
--- The row at the place of a key: the key, and the columns there.
-pub prn-columns :
-    (p at : ℕ)
-    → at < length prnRows
-    → getElem? prnRows at ≡ saePrn p
-    → some
-    (prn p
-    (column (λ (r : PrnRow). r .form) prnRows at)
-    (column (λ (r : PrnRow). r .width) prnRows at)
-    (column (λ (r : PrnRow). r .slot) prnRows at))
-    ≡ saePrn p
-prn-columns p at h e =
-    let d : PrnRow = prn 0 0 0 0 in
-    let found = elem-at prnRows at d h in
-    let told = sae-prn-fits p (getD prnRows at d) (sym e ∙ found) in
-    (λ i.
-    some
-    (prn (sym (told .0) i)
-    (List·getD-map (λ (r : PrnRow). r .form) prnRows at d i)
-    (List·getD-map (λ (r : PrnRow). r .width) prnRows at d i)
-    (List·getD-map (λ (r : PrnRow). r .slot) prnRows at d i)))
-    ∙ sym found
-    ∙ e
+  prn-placed : getElem? (prnsIn words) at ≡ saePrn p
+  prn-placed = by-key prnKey (prnsIn words) p at (rw prn-keys (part .rises)) (rw prn-keys placed) ∙ part .same
 
-pub slot-columns :
-    (f w n at : ℕ)
-    → at < length slotRows
-    → getElem? slotRows at ≡ saeSlot f w n
-    → some
-    (slot f w n
-    (column (λ (r : SlotRow). r .multiplier) slotRows at)
-    (column (λ (r : SlotRow). r .divisor) slotRows at)
-    (column (λ (r : SlotRow). r .offset) slotRows at)
-    (column (λ (r : SlotRow). r .lowest) slotRows at)
-    (column (λ (r : SlotRow). r .highest) slotRows at))
-    ≡ saeSlot f w n
-slot-columns f w n at h e =
-    let d : SlotRow = slot 0 0 0 0 0 0 0 0 in
-    let found = elem-at slotRows at d h in
-    let told = sae-slot-fits f w n (getD slotRows at d) (sym e ∙ found) in
-    (λ i.
-    some
-    (slot (sym (told .form) i) (sym (told .width) i) (sym (told .number) i)
-    (List·getD-map (λ (r : SlotRow). r .multiplier) slotRows at d i)
-    (List·getD-map (λ (r : SlotRow). r .divisor) slotRows at d i)
-    (List·getD-map (λ (r : SlotRow). r .offset) slotRows at d i)
-    (List·getD-map (λ (r : SlotRow). r .lowest) slotRows at d i)
-    (List·getD-map (λ (r : SlotRow). r .highest) slotRows at d i)))
-    ∙ sym found
-    ∙ e
+  pub prn-there :
+      at < 11
+      → some (prn p (getD words (11 + at) 0 / 2 ^ 24) (getD words (11 + at) 0 / 2 ^ 16 % 2 ^ 8) (getD words (11 + at) 0 % 2 ^ 16)) ≡ saePrn p
+  prn-there h =
+      let w : ℕ = getD words (11 + at) 0 in
+      let found : saePrn p ≡ some (prnAt words at) =
+      sym prn-placed ∙ row-at (prnAt words) 0 11 at h ∙ ap (λ (i : ℕ). some (prnAt words i)) (zero-add at) in
+      let told = sae-prn-fits p (prnAt words at) found in
+      sym (found ∙ (λ i. some (prn (told .0 i) (w / 2 ^ 24) (w / 2 ^ 16 % 2 ^ 8) (w % 2 ^ 16))))
+
+  pub prn-gone : 11 ≤ at → none ≡ saePrn p
+  prn-gone h = sym (row-past (prnAt words) 0 11 at h) ∙ prn-placed
+
+-- The same for a SLOT.
+module _ (words : List ℕ) (f w n at : ℕ) (hw : w < 256) (hn : n < 65536) (part : SlotPart (packed f w n) words) (placed : getElem? (take 7 words) at ≡ firstWhere (keyIs (packed f w n)) (take 7 words)) where
+  slot-keys : map slotKey (slotsIn words) ≡ take 7 words
+  slot-keys = row-keys (slotAt words) slotKey words (λ j. omega arith) 0 7 (omega (arith, part .size))
+
+  slot-placed : getElem? (slotsIn words) at ≡ saeSlot f w n
+  slot-placed =
+      by-key slotKey (slotsIn words) (packed f w n) at (rw slot-keys (part .rises)) (rw slot-keys placed) ∙ part .same ∙ slot-keyed f w n hw hn
+
+  pub slot-there :
+      at < 7
+      → some
+      (slot f w n (getD words (7 + at) 0 / 2 ^ 16) (getD words (7 + at) 0 % 2 ^ 16) (getD words (14 + at) 0) (getD words (21 + at) 0) (getD words (28 + at) 0))
+      ≡ saeSlot f w n
+  slot-there h =
+      let found : saeSlot f w n ≡ some (slotAt words at) =
+      sym slot-placed ∙ row-at (slotAt words) 0 7 at h ∙ ap (λ (i : ℕ). some (slotAt words i)) (zero-add at) in
+      let told = sae-slot-fits f w n (slotAt words at) found in
+      sym
+      (found
+      ∙ (λ i.
+      some
+      (slot (told .form i) (told .width i) (told .number i)
+      (getD words (7 + at) 0 / 2 ^ 16) (getD words (7 + at) 0 % 2 ^ 16) (getD words (14 + at) 0) (getD words (21 + at) 0) (getD words (28 + at) 0))))
+
+  pub slot-gone : 7 ≤ at → none ≡ saeSlot f w n
+  slot-gone h = sym (row-past (slotAt words) 0 7 at h) ∙ slot-placed

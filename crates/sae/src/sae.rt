@@ -1,22 +1,10 @@
 // The SAE rows by PRN, and by form, width and number.
 use crate::search::place_of;
-use crate::tables::PRN_COUNT;
-use crate::tables::PRN_FORMS;
-use crate::tables::PRN_KEYS;
-use crate::tables::PRN_SLOTS;
-use crate::tables::PRN_WIDTHS;
-use crate::tables::SLOT_COUNT;
-use crate::tables::SLOT_DIVISORS;
-use crate::tables::SLOT_HIGHEST;
-use crate::tables::SLOT_KEYS;
-use crate::tables::SLOT_LOWEST;
-use crate::tables::SLOT_MULTIPLIERS;
-use crate::tables::SLOT_OFFSETS;
+use crate::tables;
 ghost use mathlib.Core.Path.{_≡_};
-ghost use lib.ListN.{getElem?};
 ghost use Rattle.sae.specs.Search.{isFound};
-ghost use Rattle.sae.specs.Tables.{prnRows, slotRows};
 ghost use Rattle.sae.specs.Sae.{saePrn, saeSlot, prnOf, slotOf};
+ghost use Rattle.sae.specs.Parts.{PrnPart, SlotPart};
 
 // A PRN with the form, width and number of its SLOT.
 pub struct PrnRow {
@@ -48,53 +36,108 @@ pub enum SlotFound {
     Found(SlotRow),
 }
 
-// The place of a PRN in the columns, or their length if it is not there.
-fn prn_place(prn: u16) -> usize
-    ensures { λ r. ⌜ getElem? prnRows r ≡ saePrn prn ⌝ }
+// The part of the table that has a PRN if any has. A constant array is built where it is named, so it is the only part built.
+fn prn_part(prn: u16) -> [u32; 22]
+    ensures { λ r. ⌜ PrnPart prn r ⌝ }
 {
-    place_of(&PRN_KEYS, prn as u32)
+    match prn {
+        0..=0x000A => tables::PRN_ROWS_0,
+        0x000B..=0x0015 => tables::PRN_ROWS_1,
+        0x0016..=0x1002 => tables::PRN_ROWS_2,
+        0x1003..=0x1014 => tables::PRN_ROWS_3,
+        0x1015..=0x1025 => tables::PRN_ROWS_4,
+        0x1026..=0x1030 => tables::PRN_ROWS_5,
+        0x1031..=0x103B => tables::PRN_ROWS_6,
+        0x103C..=0x1801 => tables::PRN_ROWS_7,
+        0x1802..=0x180C => tables::PRN_ROWS_8,
+        0x180D..=0x2840 => tables::PRN_ROWS_9,
+        0x2841..=0x3007 => tables::PRN_ROWS_10,
+        0x3008..=0x3808 => tables::PRN_ROWS_11,
+        0x3809..=0x600A => tables::PRN_ROWS_12,
+        0x600B..=0x6015 => tables::PRN_ROWS_13,
+        0x6016..=0x6020 => tables::PRN_ROWS_14,
+        0x6021..=0x602B => tables::PRN_ROWS_15,
+        0x602C..=0x6036 => tables::PRN_ROWS_16,
+        0x6037..=0x6046 => tables::PRN_ROWS_17,
+        0x6047..=0x9807 => tables::PRN_ROWS_18,
+        0x9808..=0x9816 => tables::PRN_ROWS_19,
+        0x9817..=0xA00B => tables::PRN_ROWS_20,
+        0xA00C..=0xA017 => tables::PRN_ROWS_21,
+        0xA018..=0xC807 => tables::PRN_ROWS_22,
+        0xC808..=0xC812 => tables::PRN_ROWS_23,
+        0xC813..=0xC81D => tables::PRN_ROWS_24,
+        0xC81E..=0xC828 => tables::PRN_ROWS_25,
+        0xC829..=0xF803 => tables::PRN_ROWS_26,
+        _ => tables::PRN_ROWS_27,
+    }
 }
 
-// The same for a SLOT, whose key is one number: form, then width, then number.
-fn slot_place(form: u8, width: u8, number: u16) -> usize
-    ensures { λ r. ⌜ getElem? slotRows r ≡ saeSlot form width number ⌝ }
+// The same for the key of a SLOT.
+fn slot_part(key: u32) -> [u32; 35]
+    ensures { λ r. ⌜ SlotPart key r ⌝ }
 {
-    let key = (form as u32) * 0x100_0000 + (width as u32) * 0x1_0000 + number as u32;
-    place_of(&SLOT_KEYS, key)
+    match key {
+        0..=0x0104_0000 => tables::SLOT_ROWS_0,
+        0x0104_0001..=0x0107_FFFF => tables::SLOT_ROWS_1,
+        0x0108_0000..=0x0108_0006 => tables::SLOT_ROWS_2,
+        0x0108_0007..=0x0108_0028 => tables::SLOT_ROWS_3,
+        0x0108_0029..=0x0108_0048 => tables::SLOT_ROWS_4,
+        0x0108_0049..=0x0108_0064 => tables::SLOT_ROWS_5,
+        0x0108_0065..=0x0108_008C => tables::SLOT_ROWS_6,
+        0x0108_008D..=0x0108_00B4 => tables::SLOT_ROWS_7,
+        0x0108_00B5..=0x0108_00F0 => tables::SLOT_ROWS_8,
+        0x0108_00F1..=0x0110_000A => tables::SLOT_ROWS_9,
+        0x0110_000B..=0x0118_0014 => tables::SLOT_ROWS_10,
+        0x0118_0015..=0x0127_FFFF => tables::SLOT_ROWS_11,
+        0x0128_0000..=0x0208_003C => tables::SLOT_ROWS_12,
+        0x0208_003D..=0x0308_0000 => tables::SLOT_ROWS_13,
+        0x0308_0001..=0x0308_0009 => tables::SLOT_ROWS_14,
+        0x0308_000A..=0x0408_0000 => tables::SLOT_ROWS_15,
+        0x0408_0001..=0x0408_0007 => tables::SLOT_ROWS_16,
+        0x0408_0008..=0x0510_0000 => tables::SLOT_ROWS_17,
+        0x0510_0001..=0x0608_0000 => tables::SLOT_ROWS_18,
+        0x0608_0001..=0x0624_0000 => tables::SLOT_ROWS_19,
+        _ => tables::SLOT_ROWS_20,
+    }
 }
 
 // The SAE row of a PRN.
 pub fn prn_row(prn: u16) -> PrnFound
     ensures { λ r. ⌜ prnOf r ≡ saePrn prn ⌝ }
 {
-    let at = prn_place(prn);
-    if at < PRN_COUNT {
+    let rows = prn_part(prn);
+    let at = place_of(&rows[..11], prn as u32);
+    if at < 11 {
+        let slot = rows[11 + at];
         PrnFound::Found(PrnRow {
             prn,
-            form: PRN_FORMS[at],
-            width: PRN_WIDTHS[at],
-            slot: PRN_SLOTS[at],
+            form: (slot >> 24) as u8,
+            width: ((slot >> 16) % 0x100) as u8,
+            slot: (slot % 0x1_0000) as u16,
         })
     } else {
         PrnFound::Missing
     }
 }
 
-// The SAE row of a SLOT.
+// The SAE row of a SLOT, whose key is one number: form, then width, then number.
 pub fn slot_row(form: u8, width: u8, number: u16) -> SlotFound
     ensures { λ r. ⌜ slotOf r ≡ saeSlot form width number ⌝ }
 {
-    let at = slot_place(form, width, number);
-    if at < SLOT_COUNT {
+    let key = (form as u32) * 0x100_0000 + (width as u32) * 0x1_0000 + number as u32;
+    let rows = slot_part(key);
+    let at = place_of(&rows[..7], key);
+    if at < 7 {
+        let scale = rows[7 + at];
         SlotFound::Found(SlotRow {
             form,
             width,
             number,
-            multiplier: SLOT_MULTIPLIERS[at],
-            divisor: SLOT_DIVISORS[at],
-            offset: SLOT_OFFSETS[at],
-            lowest: SLOT_LOWEST[at],
-            highest: SLOT_HIGHEST[at],
+            multiplier: (scale >> 16) as u16,
+            divisor: (scale % 0x1_0000) as u16,
+            offset: rows[14 + at],
+            lowest: rows[21 + at],
+            highest: rows[28 + at],
         })
     } else {
         SlotFound::Missing
@@ -105,12 +148,20 @@ pub fn slot_row(form: u8, width: u8, number: u16) -> SlotFound
 pub fn has_prn(prn: u16) -> bool
     ensures { λ r. ⌜ r ≡ isFound (saePrn prn) ⌝ }
 {
-    prn_place(prn) < PRN_COUNT
+    let found = prn_row(prn);
+    match found {
+        PrnFound::Missing => false,
+        PrnFound::Found(_) => true,
+    }
 }
 
 // Whether a SLOT is in the SAE tables.
 pub fn has_slot(form: u8, width: u8, number: u16) -> bool
     ensures { λ r. ⌜ r ≡ isFound (saeSlot form width number) ⌝ }
 {
-    slot_place(form, width, number) < SLOT_COUNT
+    let found = slot_row(form, width, number);
+    match found {
+        SlotFound::Missing => false,
+        SlotFound::Found(_) => true,
+    }
 }

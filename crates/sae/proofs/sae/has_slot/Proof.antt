@@ -1,18 +1,27 @@
--- A place within the table is the place of a row.
+-- Found or not is the case of the row.
 use mathlib.Core.Path.{sym, ap, _∙_}
-use Rattle.sae.specs.Tables.{slotRows}
 use Rattle.sae.specs.Search.{isFound}
-use Rattle.sae.proofs.SearchLaws.{found-within}
+use Rattle.sae.specs.Sae.{slotOf}
 use borrow.Author.Needs.{needs}
 use Rattle.sae.proofs.sae.has_slot.Statement.{statement}
 use Rattle.sae.proofs.sae.has_slot.Tie as tie
 
-slot-place-requires : tie.Need-slot-place-requires
-slot-place-requires c κs = search needs
+slot-row-requires : tie.Need-slot-row-requires
+slot-row-requires c κs = search needs
+
+enum-told : tie.Need-enum-told
+enum-told c = search needs
+
+enum-told-2 : tie.Need-enum-told-2
+enum-told-2 c = search needs
 
 returns : tie.Need-returns
-unfolding slotRows
-returns c = sym (found-within slotRows (c .slot-place .result)) ∙ ap isFound (c .slot-place .ensures)
+unfolding isFound
+returns c = ap isFound (ap slotOf (sym (c .enum-told .given .1)) ∙ c .before .before .slot-row .ensures)
+
+returns-2 : tie.Need-returns-2
+unfolding isFound
+returns-2 c = ap isFound (ap slotOf (sym (c .enum-told2 .given .1)) ∙ c .before .before .slot-row .ensures)
 
 pub has-slot-spec : {M : Type 1} → statement M
-has-slot-spec = tie.close (tie.spec slot-place-requires returns)
+has-slot-spec = tie.close (tie.spec slot-row-requires enum-told enum-told-2 returns returns-2)
