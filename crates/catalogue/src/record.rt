@@ -39,9 +39,11 @@ pub(crate) fn two_at(bytes: &[u8], i: usize) -> u16
     requires { ⌜ i < 64 ⌝ }
     ensures { λ r. ⌜ r ≡ two (now (bytes .entry)) i ⌝ }
 {
-    let high = byte_at(bytes, i);
-    let low = byte_at(bytes, i + 1);
-    high as u16 * 256 + low as u16
+    if i + 1 < bytes.len() {
+        bytes[i] as u16 * 256 + bytes[i + 1] as u16
+    } else {
+        byte_at(bytes, i) as u16 * 256
+    }
 }
 
 pub(crate) fn four_at(bytes: &[u8], i: usize) -> u32
