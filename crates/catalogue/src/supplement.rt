@@ -9,7 +9,7 @@ use frame::header::byte_at;
 ghost use mathlib.Core.Path.{_≡_};
 ghost use mathlib.Core.List.{[], _∷_, _++_};
 ghost use Prim.Native.Nat.{_+_, _≤_, _<_};
-ghost use lib.ListN.{length, take, drop};
+ghost use lib.ListN.{length, take, drop, getD};
 ghost use Rattle.sae.specs.Search.{firstWhere, isFound};
 ghost use Rattle.catalogue.specs.Record.{recordSize, kindOf, keySize, keyOf, hasKey, fault};
 ghost use Rattle.catalogue.specs.Supplement.{recordFrom, recordsOf, recordWith, recordAt, Spanned, check};
@@ -27,12 +27,11 @@ pub struct Checked {
     pub place: usize,
 }
 
-// The end of the record that starts at a place.
-fn record_end(s: &[u8], at: usize) -> usize
-    requires { ⌜ at < length (now s) ⌝ }
+// The end of the record that starts at a place, by its size.
+fn end_of(s: &[u8], at: usize, size: usize) -> usize
+    requires { ⌜ (at < length (now s)) × (size ≡ recordSize (getD (now s) at 0)) ⌝ }
     ensures { λ r. ⌜ r ≡ at + length (recordFrom (now (s .entry)) at) ⌝ }
 {
-    let size = record_size(s[at]);
     if size < s.len() - at {
         at + size
     } else {
@@ -40,14 +39,29 @@ fn record_end(s: &[u8], at: usize) -> usize
     }
 }
 
-// The first record with that kind and key.
+// The same by the place alone.
+fn record_end(s: &[u8], at: usize) -> usize
+    requires { ⌜ at < length (now s) ⌝ }
+    ensures { λ r. ⌜ r ≡ at + length (recordFrom (now (s .entry)) at) ⌝ }
+{
+    end_of(s, at, record_size(s[at]))
+}
+
+// The first record with that kind and key. Neighbours are mostly of one kind, so a size serves until the kind changes.
 pub(crate) fn find_record(s: &[u8], key: &[u8]) -> RecordFound
     ensures found { λ r. ⌜ recordAt (now (s .entry)) r ≡ recordWith (now (key .entry)) (now (s .entry)) ⌝ }
     ensures spanned { λ r. ⌜ Spanned (now (s .entry)) r ⌝ }
 {
     let mut at: usize = 0;
+    let mut kind: u8 = 0;
+    let mut size = record_size(kind);
     while at < s.len() {
-        let end = record_end(s, at);
+        let first = s[at];
+        if first != kind {
+            kind = first;
+            size = record_size(kind);
+        }
+        let end = end_of(s, at, size);
         if has_key(key, &s[at..end]) {
             return RecordFound::At(at, end);
         }
