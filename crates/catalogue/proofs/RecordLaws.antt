@@ -5,10 +5,12 @@ use mathlib.Core.List.{List, [], _∷_}
 use Prim.Native.Nat.{ℕ, zero, suc, _+_, _*_, _≤_, _<_}
 use native.Mathlib.Numerals.{add-one}
 use native.Mathlib.Omega.{arith}
-use borrow.Author.Tests.{eq-eqb, ne-eqb}
+use borrow.Author.Tests.{eq-eqb, ne-eqb, eqb-true, eqb-false}
+use lib.Bits.{bitOr, or-add-and, and-le-r}
 use lib.Dec.{eqb}
 use lib.ListN.{length, drop, getD, drop-of-length-le}
 use lib.Seq.{drop-cons}
+use Rattle.frame.proofs.Bytes.{cases}
 use Rattle.sae.specs.Rows.{prnFits, slotFits}
 use Rattle.sae.specs.Search.{isFound}
 use Rattle.sae.specs.Sae.{saePrn, saeSlot}
@@ -70,18 +72,24 @@ pub key-same :
 unfolding hasKey
 key-same key r i h l e = rw (add-one, drop-cons key i 0 h, drop-cons r i 0 l, eq-eqb (getD key i 0) (getD r i 0) e)
 
--- What follows a place is all zero if the byte there and what follows it are.
-pub zero-ends : (s : List ℕ) (i : ℕ) → length s ≤ i → allZero (drop i s) ≡ true
-unfolding allZero
-zero-ends s i h = rw (drop-of-length-le s {i = i} h)
+-- Two bytes joined are zero exactly when both are.
+or-zero : (a b : ℕ) → eqb (bitOr a b) 0 ≡ (eqb a 0 && eqb b 0)
+or-zero a b =
+    cases (eqb a 0)
+    (λ t. let e : a ≡ 0 = eqb-true a 0 t in rw (t, e))
+    (λ f. rw f (ne-eqb (bitOr a b) 0 (λ e. eqb-false a 0 f (omega (arith, or-add-and a b, and-le-r a b)))))
 
-pub zero-differs : (s : List ℕ) (i : ℕ) → i < length s → (getD s i 0 ≡ 0 → ⊥) → allZero (drop i s) ≡ false
+-- What follows a place is all zero if the byte there and what follows it are. `any` has the bytes joined before it.
+pub zero-ends : (s : List ℕ) (i any : ℕ) → length s ≤ i → (eqb any 0 && allZero (drop i s)) ≡ eqb any 0
 unfolding allZero
-zero-differs s i h n = rw (drop-cons s i 0 h, ne-eqb (getD s i 0) 0 n)
+zero-ends s i any h = rw (drop-of-length-le s {i = i} h) (cases (eqb any 0) (λ t. rw t) (λ f. rw f))
 
-pub zero-same : (s : List ℕ) (i : ℕ) → i < length s → getD s i 0 ≡ 0 → allZero (drop i s) ≡ allZero (drop (i + 1) s)
+pub zero-next :
+    (s : List ℕ) (i any : ℕ)
+    → i < length s
+    → (eqb any 0 && allZero (drop i s)) ≡ (eqb (bitOr any (getD s i 0)) 0 && allZero (drop (i + 1) s))
 unfolding allZero
-zero-same s i h e = rw (add-one, drop-cons s i 0 h, eq-eqb (getD s i 0) 0 e)
+zero-next s i any h = rw (add-one, drop-cons s i 0 h, or-zero any (getD s i 0)) (cases (eqb any 0) (λ t. rw t) (λ f. rw f))
 
 -- The range test and the SAE test by kind.
 module _ (r : List ℕ) where

@@ -102,14 +102,13 @@ pub(crate) fn has_key(key: &[u8], bytes: &[u8]) -> bool
 fn all_zero(bytes: &[u8], from: usize) -> bool
     ensures { λ r. ⌜ r ≡ allZero (drop from (now (bytes .entry))) ⌝ }
 {
+    let mut any: u8 = 0;
     let mut i = from;
     while i < bytes.len() {
-        if bytes[i] != 0 {
-            return false;
-        }
+        any |= bytes[i];
         i += 1;
     }
-    true
+    any == 0
 }
 
 fn header_fits(first: u8, target: u8) -> bool
