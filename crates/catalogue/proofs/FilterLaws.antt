@@ -3,19 +3,19 @@ use mathlib.Core.Path.{_≡_, refl, sym, ap, _∙_}
 use mathlib.Core.Logic.{⊎-elim}
 use mathlib.Core.Bool.{Bool, true, false, cond, true≢false}
 use mathlib.Core.List.{List, [], _∷_, _++_, List·Memᴰ, List·Memᴰ·append-cases, List·Memᴰ·eq-of-singleton, List·Memᴰ·not-nil}
-use Prim.Native.Nat.{ℕ, _*_, _/_, _%_, _^_, _≤_, _<_, max}
+use Prim.Native.Nat.{ℕ, _-_, _*_, _/_, _%_, _^_, _≤_, _<_, max}
 use native.Mathlib.Nat.{le-max-left, le-max-right, max-le, one-mul, mod-eq-of-lt, div-self}
 use native.Mathlib.Omega.{arith}
-use borrow.Author.Tests.{lt-ltb, le-ltb, ltb-true, ltb-false, eq-eqb, eqb-true, eqb-false}
-use lib.Bits.{bitOr, bitAnd, or-shr, or-step, and-mask}
-use lib.Dec.{eqb, ltb}
+use borrow.Author.Tests.{eq-eqb, ne-eqb, eqb-true, eqb-false}
+use lib.Bits.{bitOr, bitAnd, or-shr, or-step, and-mask, and-le-r}
+use lib.Dec.{eqb}
 use lib.ListN.{length, getD, set, length-set}
 use lib.Pow.{pow-pos, pow-lt}
 use lib.Seq.{getD-set-same, getD-set-other}
 use Rattle.frame.proofs.Bytes.{cases}
 use Rattle.sae.specs.Search.{firstWhere, isFound}
 use Rattle.catalogue.specs.Record.{recordSize, kindOf, keyOf, hasKey}
-use Rattle.catalogue.specs.Filter.{bitOf, marked, Marks, Covers}
+use Rattle.catalogue.specs.Filter.{bitOf, wordOf, marked, Marks, Covers}
 use Rattle.catalogue.proofs.AcceptedLaws.{own-key, differs-new}
 
 -- A bit of two words joined is set where one of them has it.
@@ -38,72 +38,76 @@ or-set a k h =
     let own : 1 * 2 ^ k % 2 ^ 64 / 2 ^ k ≡ 1 = ap (λ (n : ℕ). n / 2 ^ k) (one-bit k h) ∙ div-self (pow-pos k) in
     omega (arith, or-bit a (1 * 2 ^ k % 2 ^ 64) k, own, le-max-right (a / 2 ^ k % 2) (1 * 2 ^ k % 2 ^ 64 / 2 ^ k % 2))
 
-module _ (f : List ℕ) (bit : ℕ) where
-  marked-within : bit / 64 < length f → marked f bit ≡ eqb (getD f (bit / 64) 0 / 2 ^ (bit % 64) % 2) 1
-  unfolding marked
-  marked-within h = rw (lt-ltb (bit / 64) (length f) h)
+-- A filter of no words counts as full.
+pub marks-none : (f key : List ℕ) → length f ≡ 0 → Marks f f key true
+unfolding marked
+marks-none f key e = record { told = rw (eq-eqb (length f) 0 e); set = rw (eq-eqb (length f) 0 e); kept = λ b m. m }
 
-  marked-beyond : length f ≤ bit / 64 → marked f bit ≡ true
-  unfolding marked
-  marked-beyond h = rw (le-ltb (bit / 64) (length f) h)
+-- A filter that has words has the word of each bit.
+marked-within : (f : List ℕ) (bit : ℕ) → (length f ≡ 0 → ⊥) → marked f bit ≡ eqb (getD f (wordOf f bit) 0 / 2 ^ (bit % 64) % 2) 1
+unfolding marked
+marked-within f bit n = rw (ne-eqb (length f) 0 n)
 
--- A key whose bit lies beyond the filter.
-pub marks-beyond : (f key : List ℕ) {bit : ℕ} → bit ≡ bitOf key → length f ≤ bit / 64 → Marks f f key true
-marks-beyond f key {bit} e h =
-    let all : marked f (bitOf key) ≡ true = marked-beyond f (bitOf key) (omega (arith, ap (λ (b : ℕ). b / 64) e)) in
-    record { told = sym all; set = all; kept = λ b m. m }
+pub word-within : (f : List ℕ) (bit : ℕ) → (length f ≡ 0 → ⊥) → wordOf f bit < length f
+word-within f bit n =
+    cases (eqb (length f) 0) (λ t. absurd (n (eqb-true _ _ t)))
+    (λ e. omega (arith, and-le-r (bit / 64) (length f - 1), eqb-false (length f) 0 e))
 
 -- A key whose bit is set in its word.
-module _ (f : List ℕ) (bit : ℕ) (h : bit / 64 < length f) where
+module _ (f : List ℕ) (bit : ℕ) (n : length f ≡ 0 → ⊥) where
   -- The word with the bit, and the filter with that word.
   joined : ℕ
-  joined = bitOr (getD f (bit / 64) 0) (1 * 2 ^ (bit % 64) % 2 ^ 64)
+  joined = bitOr (getD f (wordOf f bit) 0) (1 * 2 ^ (bit % 64) % 2 ^ 64)
 
   after : List ℕ
-  after = set f (bit / 64) joined
+  after = set f (wordOf f bit) joined
 
-  word-set : getD after (bit / 64) 0 ≡ joined
+  same-word : (b : ℕ) → wordOf after b ≡ wordOf f b
   unfolding after
-  word-set = getD-set-same f (bit / 64) joined 0 h
+  same-word b = ap (λ (m : ℕ). bitAnd (b / 64) (m - 1)) (length-set f (wordOf f bit) joined)
 
-  after-within : (b : ℕ) → b / 64 < length f → getD after (b / 64) 0 / 2 ^ (b % 64) % 2 ≡ 1 → marked after b ≡ true
+  word-set : getD after (wordOf f bit) 0 ≡ joined
   unfolding after
-  after-within b l s = marked-within after b (simp length-set l) ∙ eq-eqb (getD after (b / 64) 0 / 2 ^ (b % 64) % 2) 1 s
+  word-set = getD-set-same f (wordOf f bit) joined 0 (word-within f bit n)
+
+  after-within : (b : ℕ) → getD after (wordOf f b) 0 / 2 ^ (b % 64) % 2 ≡ 1 → marked after b ≡ true
+  unfolding after
+  after-within b s =
+      marked-within after b (λ e. n (sym (length-set f (wordOf f bit) joined) ∙ e))
+      ∙ eq-eqb (getD after (wordOf after b) 0 / 2 ^ (b % 64) % 2) 1
+      (ap (λ (w : ℕ). getD after w 0 / 2 ^ (b % 64) % 2) (same-word b) ∙ s)
 
   own-set : marked after bit ≡ true
   unfolding joined
   own-set =
-      after-within bit h
-      (ap (λ (w : ℕ). w / 2 ^ (bit % 64) % 2) word-set ∙ or-set (getD f (bit / 64) 0) (bit % 64) (omega arith))
+      after-within bit
+      (ap (λ (w : ℕ). w / 2 ^ (bit % 64) % 2) word-set ∙ or-set (getD f (wordOf f bit) 0) (bit % 64) (omega arith))
 
-  still-set : (b : ℕ) → getD f (b / 64) 0 / 2 ^ (b % 64) % 2 ≡ 1 → getD after (b / 64) 0 / 2 ^ (b % 64) % 2 ≡ 1
+  still-set : (b : ℕ) → getD f (wordOf f b) 0 / 2 ^ (b % 64) % 2 ≡ 1 → getD after (wordOf f b) 0 / 2 ^ (b % 64) % 2 ≡ 1
   unfolding after joined
   still-set b s =
-      cases (eqb (b / 64) (bit / 64))
+      cases (eqb (wordOf f b) (wordOf f bit))
       (λ t.
-      let same : b / 64 ≡ bit / 64 = eqb-true _ _ t in
+      let same : wordOf f b ≡ wordOf f bit = eqb-true _ _ t in
       ap (λ (w : ℕ). w / 2 ^ (b % 64) % 2) (ap (λ (i : ℕ). getD after i 0) same ∙ word-set)
-      ∙ or-kept (getD f (bit / 64) 0) (1 * 2 ^ (bit % 64) % 2 ^ 64) (b % 64) (ap (λ (i : ℕ). getD f i 0 / 2 ^ (b % 64) % 2) (sym same) ∙ s))
-      (λ n. ap (λ (w : ℕ). w / 2 ^ (b % 64) % 2) (getD-set-other f (bit / 64) (b / 64) joined 0 (eqb-false _ _ n)) ∙ s)
+      ∙ or-kept (getD f (wordOf f bit) 0) (1 * 2 ^ (bit % 64) % 2 ^ 64) (b % 64) (ap (λ (i : ℕ). getD f i 0 / 2 ^ (b % 64) % 2) (sym same) ∙ s))
+      (λ e. ap (λ (w : ℕ). w / 2 ^ (b % 64) % 2) (getD-set-other f (wordOf f bit) (wordOf f b) joined 0 (eqb-false _ _ e)) ∙ s)
 
-  kept-set : (b : ℕ) → marked f b ≡ true → marked after b ≡ true
-  unfolding after
-  kept-set b m =
-      cases (ltb (b / 64) (length f))
-      (λ t.
-      let l : b / 64 < length f = ltb-true _ _ t in
-      after-within b l (still-set b (eqb-true _ _ (sym (marked-within f b l) ∙ m))))
-      (λ n. let l : length f ≤ b / 64 = ltb-false _ _ n in marked-beyond after b (simp length-set l))
-
-  pub marks-within : (key : List ℕ) → bit ≡ bitOf key → Marks f (set f (bit / 64) (bitOr (getD f (bit / 64) 0) (1 * 2 ^ (bit % 64) % 2 ^ 64))) key (eqb (bitAnd (getD f (bit / 64) 0 / 2 ^ (bit % 64)) 1) 1)
+  pub marks-within :
+      (key : List ℕ)
+      → bit ≡ bitOf key
+      → Marks f
+      (set f (wordOf f bit) (bitOr (getD f (wordOf f bit) 0) (1 * 2 ^ (bit % 64) % 2 ^ 64)))
+      key
+      (eqb (bitAnd (getD f (wordOf f bit) 0 / 2 ^ (bit % 64)) 1) 1)
   unfolding after joined
   marks-within key e =
       record {
         told =
-            ap (λ (n : ℕ). eqb n 1) (and-mask (getD f (bit / 64) 0 / 2 ^ (bit % 64)) 1)
-            ∙ sym (ap (marked f) (sym e) ∙ marked-within f bit h);
+            ap (λ (w : ℕ). eqb w 1) (and-mask (getD f (wordOf f bit) 0 / 2 ^ (bit % 64)) 1)
+            ∙ sym (ap (marked f) (sym e) ∙ marked-within f bit n);
         set = ap (marked after) (sym e) ∙ own-set;
-        kept = kept-set;
+        kept = λ b m. after-within b (still-set b (eqb-true _ _ (sym (marked-within f b n) ∙ m)));
       }
 
 -- No record needs no bit.

@@ -14,15 +14,16 @@ fn bit_of(key: &[u8]) -> usize
     (kind as usize * 21845 + near as usize * 40503 + far as usize) % 65536
 }
 
-// Sets the bit of a key, and tells whether it was set. A bit beyond the filter's end counts as set.
+// Sets the bit of a key, and tells whether it was set. Where the filter has fewer words than bits need, its words, a power of two,
+// serve several times over; a filter of no words counts as full.
 pub(crate) fn mark(filter: &mut [u64], key: &[u8]) -> bool
     ensures { λ r. ⌜ Marks (now (filter .entry)) (now (filter .exit)) (now (key .entry)) r ⌝ }
 {
-    let bit = bit_of(key);
-    let at = bit / 64;
-    if filter.len() <= at {
+    if filter.len() == 0 {
         return true;
     }
+    let bit = bit_of(key);
+    let at = (bit / 64) & (filter.len() - 1);
     let place = bit % 64;
     let word = filter[at];
     filter[at] = word | (1 << place);

@@ -154,9 +154,14 @@ pub fn check_supplement(s: &[u8]) -> Checked
             place: 0,
         };
     }
-    if s.len() <= 128 {
-        let mut none = [0u64; 1];
-        return check_records(s, &mut none);
+    // The filter's zeros take time too: it grows with the supplement.
+    if s.len() <= 256 {
+        let mut filter = [0u64; 8];
+        return check_records(s, &mut filter);
+    }
+    if s.len() <= 2048 {
+        let mut filter = [0u64; 128];
+        return check_records(s, &mut filter);
     }
     let mut filter = [0u64; 1024];
     check_records(s, &mut filter)

@@ -26,6 +26,15 @@ check-records-requires-2 c κs = search needs
 returns-3 : tie.Need-returns-3
 returns-3 c = search needs
 
+slice-aggregate-check-records-3 : tie.Need-slice-aggregate-check-records-3
+slice-aggregate-check-records-3 c = search needs
+
+check-records-requires-3 : tie.Need-check-records-requires-3
+check-records-requires-3 c κs = search needs
+
+returns-4 : tie.Need-returns-4
+returns-4 c = search needs
+
 pub check-supplement-spec : {M : Type 1} → statement M
 check-supplement-spec =
     tie.close
@@ -36,4 +45,7 @@ check-supplement-spec =
     returns-2
     slice-aggregate-check-records-2
     check-records-requires-2
-    returns-3)
+    returns-3
+    slice-aggregate-check-records-3
+    check-records-requires-3
+    returns-4)
