@@ -214,29 +214,29 @@ module _ (words : List ℕ) (p at : ℕ) (part : PrnPart p words) (placed : getE
   prn-gone h = sym (row-past (prnAt words) 0 11 at h) ∙ prn-placed
 
 -- The same for a SLOT.
-module _ (words : List ℕ) (f w n at : ℕ) (hw : w < 256) (hn : n < 65536) (part : SlotPart (packed f w n) words) (placed : getElem? (take 7 words) at ≡ firstWhere (keyIs (packed f w n)) (take 7 words)) where
-  slot-keys : map slotKey (slotsIn words) ≡ take 7 words
-  slot-keys = row-keys (slotAt words) slotKey words (λ j. omega arith) 0 7 (omega (arith, part .size))
+module _ (words : List ℕ) (f w n at : ℕ) (hw : w < 256) (hn : n < 65536) (part : SlotPart (packed f w n) words) (placed : getElem? (take 5 words) at ≡ firstWhere (keyIs (packed f w n)) (take 5 words)) where
+  slot-keys : map slotKey (slotsIn words) ≡ take 5 words
+  slot-keys = row-keys (slotAt words) slotKey words (λ j. omega arith) 0 5 (omega (arith, part .size))
 
   slot-placed : getElem? (slotsIn words) at ≡ saeSlot f w n
   slot-placed =
       by-key slotKey (slotsIn words) (packed f w n) at (rw slot-keys (part .rises)) (rw slot-keys placed) ∙ part .same ∙ slot-keyed f w n hw hn
 
   pub slot-there :
-      at < 7
+      at < 5
       → some
-      (slot f w n (getD words (7 + at) 0 / 2 ^ 16) (getD words (7 + at) 0 % 2 ^ 16) (getD words (14 + at) 0) (getD words (21 + at) 0) (getD words (28 + at) 0))
+      (slot f w n (getD words (5 + at) 0 / 2 ^ 16) (getD words (5 + at) 0 % 2 ^ 16) (getD words (10 + at) 0) (getD words (15 + at) 0) (getD words (20 + at) 0))
       ≡ saeSlot f w n
   slot-there h =
       let found : saeSlot f w n ≡ some (slotAt words at) =
-      sym slot-placed ∙ row-at (slotAt words) 0 7 at h ∙ ap (λ (i : ℕ). some (slotAt words i)) (zero-add at) in
+      sym slot-placed ∙ row-at (slotAt words) 0 5 at h ∙ ap (λ (i : ℕ). some (slotAt words i)) (zero-add at) in
       let told = sae-slot-fits f w n (slotAt words at) found in
       sym
       (found
       ∙ (λ i.
       some
       (slot (told .form i) (told .width i) (told .number i)
-      (getD words (7 + at) 0 / 2 ^ 16) (getD words (7 + at) 0 % 2 ^ 16) (getD words (14 + at) 0) (getD words (21 + at) 0) (getD words (28 + at) 0))))
+      (getD words (5 + at) 0 / 2 ^ 16) (getD words (5 + at) 0 % 2 ^ 16) (getD words (10 + at) 0) (getD words (15 + at) 0) (getD words (20 + at) 0))))
 
-  pub slot-gone : 7 ≤ at → none ≡ saeSlot f w n
-  slot-gone h = sym (row-past (slotAt words) 0 7 at h) ∙ slot-placed
+  pub slot-gone : 5 ≤ at → none ≡ saeSlot f w n
+  slot-gone h = sym (row-past (slotAt words) 0 5 at h) ∙ slot-placed

@@ -30,17 +30,17 @@ pub record PrnPart (p : ℕ) (words : List ℕ) : Type 0 where
   pub rises : rising (take 11 words) ≡ true
   pub same : firstWhere (prnIs p) (prnsIn words) ≡ saePrn p
 
--- Seven SLOT rows: the keys, which are form, width and number; multiplier and divisor; offsets, lowest and highest raw numbers.
+-- Five SLOT rows: the keys, which are form, width and number; multiplier and divisor; offsets, lowest and highest raw numbers.
 abbrev pub slotAt : List ℕ → ℕ → SlotRow
 slotAt words i =
-    slot (getD words i 0 / 2 ^ 24) (getD words i 0 / 2 ^ 16 % 2 ^ 8) (getD words i 0 % 2 ^ 16) (getD words (7 + i) 0 / 2 ^ 16)
-    (getD words (7 + i) 0 % 2 ^ 16) (getD words (14 + i) 0) (getD words (21 + i) 0) (getD words (28 + i) 0)
+    slot (getD words i 0 / 2 ^ 24) (getD words i 0 / 2 ^ 16 % 2 ^ 8) (getD words i 0 % 2 ^ 16) (getD words (5 + i) 0 / 2 ^ 16)
+    (getD words (5 + i) 0 % 2 ^ 16) (getD words (10 + i) 0) (getD words (15 + i) 0) (getD words (20 + i) 0)
 
 abbrev pub slotsIn : List ℕ → List SlotRow
-slotsIn words = rowsFrom (slotAt words) 0 7
+slotsIn words = rowsFrom (slotAt words) 0 5
 
 -- The same for a SLOT, by its key as one number.
 pub record SlotPart (key : ℕ) (words : List ℕ) : Type 0 where
-  pub size : length words ≡ 35
-  pub rises : rising (take 7 words) ≡ true
+  pub size : length words ≡ 25
+  pub rises : rising (take 5 words) ≡ true
   pub same : firstWhere (λ r. keyIs key (slotKey r)) (slotsIn words) ≡ firstWhere (λ r. keyIs key (slotKey r)) slotRows

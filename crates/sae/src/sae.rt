@@ -73,31 +73,40 @@ fn prn_part(prn: u16) -> [u32; 22]
 }
 
 // The same for the key of a SLOT.
-fn slot_part(key: u32) -> [u32; 35]
+fn slot_part(key: u32) -> [u32; 25]
     ensures { λ r. ⌜ SlotPart key r ⌝ }
 {
     match key {
-        0..=0x0104_0000 => tables::SLOT_ROWS_0,
-        0x0104_0001..=0x0107_FFFF => tables::SLOT_ROWS_1,
-        0x0108_0000..=0x0108_0006 => tables::SLOT_ROWS_2,
-        0x0108_0007..=0x0108_0028 => tables::SLOT_ROWS_3,
-        0x0108_0029..=0x0108_0048 => tables::SLOT_ROWS_4,
-        0x0108_0049..=0x0108_0064 => tables::SLOT_ROWS_5,
-        0x0108_0065..=0x0108_008C => tables::SLOT_ROWS_6,
-        0x0108_008D..=0x0108_00B4 => tables::SLOT_ROWS_7,
-        0x0108_00B5..=0x0108_00F0 => tables::SLOT_ROWS_8,
-        0x0108_00F1..=0x0110_000A => tables::SLOT_ROWS_9,
-        0x0110_000B..=0x0118_0014 => tables::SLOT_ROWS_10,
-        0x0118_0015..=0x0127_FFFF => tables::SLOT_ROWS_11,
-        0x0128_0000..=0x0208_003C => tables::SLOT_ROWS_12,
-        0x0208_003D..=0x0308_0000 => tables::SLOT_ROWS_13,
-        0x0308_0001..=0x0308_0009 => tables::SLOT_ROWS_14,
-        0x0308_000A..=0x0408_0000 => tables::SLOT_ROWS_15,
-        0x0408_0001..=0x0408_0007 => tables::SLOT_ROWS_16,
-        0x0408_0008..=0x0510_0000 => tables::SLOT_ROWS_17,
-        0x0510_0001..=0x0608_0000 => tables::SLOT_ROWS_18,
-        0x0608_0001..=0x0624_0000 => tables::SLOT_ROWS_19,
-        _ => tables::SLOT_ROWS_20,
+        0..=0x0103_0000 => tables::SLOT_ROWS_0,
+        0x0103_0001..=0x0105_FFFF => tables::SLOT_ROWS_1,
+        0x0106_0000..=0x0108_0000 => tables::SLOT_ROWS_2,
+        0x0108_0001..=0x0108_0005 => tables::SLOT_ROWS_3,
+        0x0108_0006..=0x0108_0019 => tables::SLOT_ROWS_4,
+        0x0108_001A..=0x0108_0032 => tables::SLOT_ROWS_5,
+        0x0108_0033..=0x0108_0048 => tables::SLOT_ROWS_6,
+        0x0108_0049..=0x0108_005A => tables::SLOT_ROWS_7,
+        0x0108_005B..=0x0108_006E => tables::SLOT_ROWS_8,
+        0x0108_006F..=0x0108_0096 => tables::SLOT_ROWS_9,
+        0x0108_0097..=0x0108_00AA => tables::SLOT_ROWS_10,
+        0x0108_00AB..=0x0108_00D2 => tables::SLOT_ROWS_11,
+        0x0108_00D3..=0x0110_0000 => tables::SLOT_ROWS_12,
+        0x0110_0001..=0x0110_000A => tables::SLOT_ROWS_13,
+        0x0110_000B..=0x0117_FFFF => tables::SLOT_ROWS_14,
+        0x0118_0000..=0x011F_FFFF => tables::SLOT_ROWS_15,
+        0x0120_0000..=0x012F_FFFF => tables::SLOT_ROWS_16,
+        0x0130_0000..=0x0208_0032 => tables::SLOT_ROWS_17,
+        0x0208_0033..=0x0304_0000 => tables::SLOT_ROWS_18,
+        0x0304_0001..=0x0308_0002 => tables::SLOT_ROWS_19,
+        0x0308_0003..=0x0308_0009 => tables::SLOT_ROWS_20,
+        0x0308_000A..=0x0318_0000 => tables::SLOT_ROWS_21,
+        0x0318_0001..=0x0408_0003 => tables::SLOT_ROWS_22,
+        0x0408_0004..=0x0410_0000 => tables::SLOT_ROWS_23,
+        0x0410_0001..=0x0508_0000 => tables::SLOT_ROWS_24,
+        0x0508_0001..=0x0530_0000 => tables::SLOT_ROWS_25,
+        0x0530_0001..=0x0610_0000 => tables::SLOT_ROWS_26,
+        0x0610_0001..=0x0624_0000 => tables::SLOT_ROWS_27,
+        0x0624_0001..=0x0638_0000 => tables::SLOT_ROWS_28,
+        _ => tables::SLOT_ROWS_29,
     }
 }
 
@@ -126,18 +135,18 @@ pub fn slot_row(form: u8, width: u8, number: u16) -> SlotFound
 {
     let key = (form as u32) * 0x100_0000 + (width as u32) * 0x1_0000 + number as u32;
     let rows = slot_part(key);
-    let at = place_of(&rows[..7], key);
-    if at < 7 {
-        let scale = rows[7 + at];
+    let at = place_of(&rows[..5], key);
+    if at < 5 {
+        let scale = rows[5 + at];
         SlotFound::Found(SlotRow {
             form,
             width,
             number,
             multiplier: (scale >> 16) as u16,
             divisor: (scale % 0x1_0000) as u16,
-            offset: rows[14 + at],
-            lowest: rows[21 + at],
-            highest: rows[28 + at],
+            offset: rows[10 + at],
+            lowest: rows[15 + at],
+            highest: rows[20 + at],
         })
     } else {
         SlotFound::Missing

@@ -33,7 +33,7 @@ array-share-prefix-rows : tie.Need-array-share-prefix-rows
 array-share-prefix-rows c = search needs
 
 slice-aggregate-place-of : tie.Need-slice-aggregate-place-of
-slice-aggregate-place-of c = sym (length-take-le 7 (c .before .slot-part .result) (omega (arith, c .before .slot-part .ensures .size)))
+slice-aggregate-place-of c = sym (length-take-le 5 (c .before .slot-part .result) (omega (arith, c .before .slot-part .ensures .size)))
 
 place-of-requires : tie.Need-place-of-requires
 place-of-requires c κs = c .before .slot-part .ensures .rises
@@ -48,7 +48,7 @@ array-read-scale : tie.Need-array-read-scale
 array-read-scale c = search needs
 
 cast-t24 : tie.Need-cast-t24
-cast-t24 c = omega (arith, bound (c .before .before .before) (7 + c .before .place-of .result))
+cast-t24 c = omega (arith, bound (c .before .before .before) (5 + c .before .place-of .result))
 
 cast-t26 : tie.Need-cast-t26
 cast-t26 c = search needs
