@@ -1,6 +1,6 @@
 -- Laws of the SAE tables: their rule by one computed test, and what it gives at each row.
 use mathlib.Core.Path.{_≡_, refl, sym, ap, _∙_}
-use mathlib.Core.Bool.{true, _&&_, true≢false}
+use mathlib.Core.Bool.{Bool, true, false, _&&_, true≢false}
 use mathlib.Core.List.{List, map}
 use mathlib.Core.Option.{none, some}
 use Prim.Native.Nat.{ℕ, _+_, _/_, _%_, _^_, _≤_, _<_}
@@ -17,7 +17,7 @@ use Rattle.sae.specs.Search.{firstWhere, keyIs, every, rising}
 use Rattle.sae.specs.Sae.{prnIs, slotIs, saePrn, saeSlot, packed, prnKey, slotKey, tablesHold}
 use Rattle.sae.specs.Parts.{prnAt, prnsIn, PrnPart, slotAt, slotsIn, SlotPart}
 use Rattle.frame.proofs.Bytes.{cases}
-use Rattle.sae.proofs.SearchLaws.{both, found-is, first-same, every-is, in-part, row-at, row-past, row-keys, by-key}
+use Rattle.sae.proofs.SearchLaws.{both, found-is, none-found, first-same, every-is, in-part, row-at, row-past, row-keys, by-key}
 
 -- The rule of both tables: document 01, "One statement over the whole table gives its order and ranges".
 pub tables-hold : tablesHold ≡ true
@@ -191,6 +191,24 @@ slot-keyed f w n hw hn =
     let s = slot-sizes r (every-is slotSized slotRows (rule .slot-sized) r m) in
     let t = slot-ranges r (every-is slotFits slotRows (rule .slot-fits) r m) in
     packed-is (r .form) (r .width) (r .number) f w n (omega (arith, t .key .width-most)) (omega (arith, s .number)) hw hn)
+
+-- No SAE SLOT has a number of two bytes.
+small-numbers : every (λ r. ltb (r .number) 256) slotRows ≡ true
+unfolding slotRows every
+small-numbers = refl
+
+pub slot-beyond : (f w n : ℕ) → 255 < n → none ≡ saeSlot f w n
+unfolding saeSlot
+slot-beyond f w n h =
+    sym
+    (none-found (slotIs f w n) slotRows
+    (λ r m.
+    let small : r .number < 256 = ltb-true (r .number) 256 (every-is (λ q. ltb (q .number) 256) slotRows small-numbers r m) in
+    rw (ne-eqb (r .number) n (λ e. omega arith)) (and-false (eqb (r .form) f && eqb (r .width) w))))
+  where
+    and-false : (b : Bool) → (b && false) ≡ false
+    and-false true = refl
+    and-false false = refl
 
 -- A part with a PRN's row, if there is one: the row stands at the place of the PRN.
 module _ (words : List ℕ) (p at : ℕ) (part : PrnPart p words) (placed : getElem? (take 11 words) at ≡ firstWhere (keyIs p) (take 11 words)) where

@@ -133,6 +133,10 @@ pub fn prn_row(prn: u16) -> PrnFound
 pub fn slot_row(form: u8, width: u8, number: u16) -> SlotFound
     ensures { λ r. ⌜ slotOf r ≡ saeSlot form width number ⌝ }
 {
+    // SAE numbers its SLOTs below 256: a higher number needs no search.
+    if 255 < number {
+        return SlotFound::Missing;
+    }
     let key = (form as u32) * 0x100_0000 + (width as u32) * 0x1_0000 + number as u32;
     let rows = slot_part(key);
     let at = place_of(&rows[..5], key);

@@ -1,4 +1,4 @@
--- The row at the place of the key in its part; past the part there is none.
+-- A number of two bytes is in no row; else the row is at the place of the key in its part, and past the part there is none.
 use mathlib.Core.Path.{sym}
 use Prim.Native.Nat.{ℕ, _+_}
 use native.Mathlib.Omega.{arith}
@@ -6,13 +6,16 @@ use lib.ListN.{getD}
 use lib.Seq.{length-take-le}
 use mir.Syntax.{w32}
 use mir.Val.{Fits}
-use Rattle.sae.proofs.TableLaws.{slot-there, slot-gone}
+use Rattle.sae.proofs.TableLaws.{slot-beyond, slot-there, slot-gone}
 use borrow.Author.Needs.{needs}
 use Rattle.sae.proofs.sae.slot_row.Statement.{statement}
 use Rattle.sae.proofs.sae.slot_row.Tie as tie
 
 bound : (c : tie.After-slot-part) (i : ℕ) → Fits w32 (getD (c .slot-part .result) i 0)
 bound c i = search needs
+
+returns : tie.Need-returns
+returns c = slot-beyond (c .before .args .form) (c .before .args .width) (c .before .args .number) (c .if1 .taken)
 
 mul-key : tie.Need-mul-key
 mul-key c = search needs
@@ -80,16 +83,17 @@ mul-t36 c = search needs
 array-read-t39 : tie.Need-array-read-t39
 array-read-t39 c = search needs
 
-returns : tie.Need-returns
-returns c = slot-there (c .before .before .before .slot-part .result) (c .before .before .before .before .args .form) (c .before .before .before .before .args .width) (c .before .before .before .before .args .number) (c .before .place-of .result) (omega arith) (omega arith) (c .before .before .before .slot-part .ensures) (c .before .place-of .ensures) (c .if1 .taken)
-
 returns-2 : tie.Need-returns-2
-returns-2 c = slot-gone (c .before .before .before .slot-part .result) (c .before .before .before .before .args .form) (c .before .before .before .before .args .width) (c .before .before .before .before .args .number) (c .before .place-of .result) (omega arith) (omega arith) (c .before .before .before .slot-part .ensures) (c .before .place-of .ensures) (c .if1 .left)
+returns-2 c = slot-there (c .before .before .before .slot-part .result) (c .before .before .before .before .before .args .form) (c .before .before .before .before .before .args .width) (c .before .before .before .before .before .args .number) (c .before .place-of .result) (omega arith) (omega arith) (c .before .before .before .slot-part .ensures) (c .before .place-of .ensures) (c .if2 .taken)
+
+returns-3 : tie.Need-returns-3
+returns-3 c = slot-gone (c .before .before .before .slot-part .result) (c .before .before .before .before .before .args .form) (c .before .before .before .before .before .args .width) (c .before .before .before .before .before .args .number) (c .before .place-of .result) (omega arith) (omega arith) (c .before .before .before .slot-part .ensures) (c .before .place-of .ensures) (c .if2 .left)
 
 pub slot-row-spec : {M : Type 1} → statement M
 slot-row-spec =
     tie.close
     (tie.spec
+    returns
     mul-key
     mul-key-2
     add-key
@@ -112,5 +116,5 @@ slot-row-spec =
     add-t35
     mul-t36
     array-read-t39
-    returns
-    returns-2)
+    returns-2
+    returns-3)
