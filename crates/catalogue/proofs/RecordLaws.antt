@@ -54,14 +54,14 @@ pub key-ends : (key r : List ℕ) (i : ℕ) → length key ≤ i → hasKey (dro
 unfolding hasKey
 key-ends key r i h = rw (drop-of-length-le key {i = i} h)
 
-pub key-cut : (key r : List ℕ) (i : ℕ) → i < length key → length r ≤ i → hasKey (drop i key) (drop i r) ≡ false
+-- A record that ends before a byte of the key, or has another there, does not have the key.
+pub key-unlike : (key r : List ℕ) (i : ℕ) → i < length key → (i < length r → getD key i 0 ≡ getD r i 0 → ⊥) → hasKey key r ≡ false
 unfolding hasKey
-key-cut key r i h l = rw (drop-cons key i 0 h, drop-of-length-le r {i = i} l)
-
-pub key-differs :
-    (key r : List ℕ) (i : ℕ) → i < length key → i < length r → (getD key i 0 ≡ getD r i 0 → ⊥) → hasKey (drop i key) (drop i r) ≡ false
-unfolding hasKey
-key-differs key r i h l n = rw (drop-cons key i 0 h, drop-cons r i 0 l, ne-eqb (getD key i 0) (getD r i 0) n)
+key-unlike [] r i h n = absurd (omega arith)
+key-unlike (k ∷ key) [] i h n = refl
+key-unlike (k ∷ key) (b ∷ r) zero h n = rw (ne-eqb k b (n (omega arith)))
+key-unlike (k ∷ key) (b ∷ r) (suc i) h n =
+    cases (eqb k b) (λ t. rw t (key-unlike key r i (omega arith) (λ l e. n (omega arith) e))) (λ f. rw f)
 
 pub key-same :
     (key r : List ℕ) (i : ℕ)

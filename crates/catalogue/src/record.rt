@@ -85,11 +85,19 @@ pub(crate) fn prn_of(bytes: &[u8]) -> PrnRow
 pub(crate) fn has_key(key: &[u8], bytes: &[u8]) -> bool
     ensures { λ r. ⌜ r ≡ hasKey (now (key .entry)) (now (bytes .entry)) ⌝ }
 {
-    let mut i: usize = 0;
-    while i < key.len() {
-        if bytes.len() <= i {
+    let size = key.len();
+    if bytes.len() < size {
+        return false;
+    }
+    // The last byte is where keys differ most often.
+    if 0 < size {
+        let last = size - 1;
+        if key[last] != bytes[last] {
             return false;
         }
+    }
+    let mut i: usize = 0;
+    while i < size {
         if key[i] != bytes[i] {
             return false;
         }
