@@ -5,6 +5,8 @@
 #include <string.h>
 
 #define MOST_SUPPLEMENT 16384
+#define PRN_LENGTH 7
+#define UNM 1
 /* Items of eight bits that a frame of twelve bytes holds behind its selector. */
 #define ITEMS 7
 
@@ -35,45 +37,27 @@ static void put_layout(struct supplement *supplement, const uint16_t *prns, size
         put(supplement, i < count ? prns[i] : 0, 2);
 }
 
-/* A PRN of form UNM and eight bits. */
-static void put_prn(struct supplement *supplement, uint16_t prn, uint16_t slot)
+static void put_prn(struct supplement *supplement, uint16_t prn, uint8_t form, uint8_t width,
+                    uint16_t slot)
 {
     put(supplement, 2, 1);
     put(supplement, prn, 2);
-    put(supplement, 0x0108, 2);
+    put(supplement, form, 1);
+    put(supplement, width, 1);
     put(supplement, slot, 2);
 }
 
-/* A SLOT of form UNM and eight bits, N / 2 - 40. */
-static void put_slot(struct supplement *supplement, uint16_t number)
+/* N / 2 - 40, from 0 to 255. */
+static void put_slot(struct supplement *supplement, uint8_t form, uint8_t width, uint16_t number)
 {
     put(supplement, 1, 1);
-    put(supplement, 0x0108, 2);
+    put(supplement, form, 1);
+    put(supplement, width, 1);
     put(supplement, number, 2);
     put(supplement, 0x00010002, 4);
     put(supplement, (uint32_t)-80, 4);
     put(supplement, 0, 4);
     put(supplement, 255, 4);
-}
-
-/* The i-th of up to 4,096 keys, scattered; neither SAE table has one of them. */
-static uint16_t key(size_t i)
-{
-    return (uint16_t)(0x4000 + i * 5003 % 4096);
-}
-
-/* The key of the i-th of `ITEMS` records that lie evenly among `count`. */
-static uint16_t item_key(size_t i, size_t count)
-{
-    return key((i + 1) * count / ITEMS - 1);
-}
-
-static void put_layout_of_items(struct supplement *supplement, size_t count)
-{
-    uint16_t prns[ITEMS];
-    for (size_t i = 0; i < ITEMS; i++)
-        prns[i] = item_key(i, count);
-    put_layout(supplement, prns, ITEMS);
 }
 
 static struct run one_layout(void)
@@ -84,23 +68,46 @@ static struct run one_layout(void)
     return (struct run){supplement.bytes, supplement.length};
 }
 
-/* PRNs with an SAE SLOT, then the layout that names seven of them. */
+/* The place of the i-th of `ITEMS` records that lie evenly among `count`. */
+static size_t item_place(size_t i, size_t count)
+{
+    return (i + 1) * count / ITEMS - 1;
+}
+
+/* PRNs from all over the range, but for those of SAE, each with an SAE SLOT of
+ * eight bits; then the layout that names seven of them. */
 static struct run prn_records(struct supplement *supplement, size_t count)
 {
-    for (size_t i = 0; i < count; i++)
-        put_prn(supplement, key(i), 101);
-    put_layout_of_items(supplement, count);
+    uint16_t prns[ITEMS], prn = 0;
+    while (supplement->length < count * PRN_LENGTH) {
+        prn = (uint16_t)(prn + 40503);
+        size_t before = supplement->length;
+        put_prn(supplement, prn, UNM, 8, 101);
+        if (decoder_calls.check(supplement->bytes + before, PRN_LENGTH) != 0)
+            supplement->length = before;
+    }
+    for (size_t i = 0; i < ITEMS; i++) {
+        const uint8_t *record = supplement->bytes + PRN_LENGTH * item_place(i, count);
+        prns[i] = (uint16_t)(record[1] << 8 | record[2]);
+    }
+    put_layout(supplement, prns, ITEMS);
     return (struct run){supplement->bytes, supplement->length};
 }
 
-/* SLOTs, seven PRNs that use them, and the layout that names those. */
+/* SLOTs of four widths, numbered from 1,000 on, as document 003 leaves it to
+ * makers; seven PRNs that use one of eight bits each; the layout that names
+ * those. */
 static struct run slot_records(struct supplement *supplement, size_t count)
 {
+    uint16_t prns[ITEMS];
     for (size_t i = 0; i < count; i++)
-        put_slot(supplement, key(i));
-    for (size_t i = 0; i < ITEMS; i++)
-        put_prn(supplement, item_key(i, count), item_key(i, count));
-    put_layout_of_items(supplement, count);
+        put_slot(supplement, UNM, (uint8_t)(8 + 8 * (i % 4)), (uint16_t)(1000 + i * 5003 % 4096));
+    for (size_t i = 0; i < ITEMS; i++) {
+        size_t place = item_place(i, count) / 4 * 4;
+        prns[i] = (uint16_t)(0x4000 + i);
+        put_prn(supplement, prns[i], UNM, 8, (uint16_t)(1000 + place * 5003 % 4096));
+    }
+    put_layout(supplement, prns, ITEMS);
     return (struct run){supplement->bytes, supplement->length};
 }
 
