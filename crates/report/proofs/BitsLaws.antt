@@ -1,5 +1,8 @@
 -- Laws of the bits of an item.
-use mathlib.Core.Path.{_≡_}
+use mathlib.Core.Path.{_≡_, refl, sym, ap, _∙_}
+use Rattle.frame.proofs.Bytes.{below}
+use mathlib.Core.Bool.{Bool}
+use lib.Dec.{eqb, eqb→eq}
 use mathlib.Core.List.{List}
 use Prim.Native.Nat.{ℕ, zero, suc, _+_, _-_, _*_, _/_, _%_, _^_, _≤_, _<_}
 use native.Mathlib.Nat.{zero-div, lt-of-lt-of-le}
@@ -36,3 +39,30 @@ cut-next s at w = rw add-one
 
 pub cut-below : (s : List ℕ) (at w k : ℕ) → w ≤ k → cut s at w < 2 ^ k
 cut-below s at w k h = lt-of-lt-of-le (cut-lt s at w) (pow-mono h)
+
+-- Eight bits that start where a byte starts are the byte.
+bit-of : (s : List ℕ) (i k : ℕ) → i % 8 ≡ 0 → k < 8 → bitAt s (i + k) ≡ getD s (i / 8) 0 / 2 ^ (7 - k) % 2
+unfolding bitAt
+bit-of s i k h l =
+    let q : (i + k) / 8 ≡ i / 8 = omega arith in
+    let m : (i + k) % 8 ≡ k = omega arith in
+    rw (q, m) refl
+
+-- A number with the first bits of a byte behind it.
+abbrev behind : ℕ → ℕ → ℕ → ℕ
+behind x b zero = x
+behind x b (suc k) = behind x b k * 2 + b / 2 ^ (7 - k) % 2
+
+bits-more : (s : List ℕ) (at w k : ℕ) → (at + w) % 8 ≡ 0 → k ≤ 8 → cut s at (w + k) ≡ behind (cut s at w) (getD s ((at + w) / 8) 0) k
+bits-more s at w zero h l = ap (cut s at) (omega arith)
+bits-more s at w (suc k) h l =
+    let there : bitAt s (at + (w + k)) ≡ getD s ((at + w) / 8) 0 / 2 ^ (7 - k) % 2 = ap (bitAt s) (omega arith) ∙ bit-of s (at + w) k h (omega arith) in
+    ap (cut s at) (omega arith) ∙ sym (cut-next s at (w + k)) ∙ (λ i. bits-more s at w k h (omega arith) i * 2 + there i)
+
+abbrev made : ℕ → Bool
+made b = eqb (behind 0 b 8) b
+
+pub cut-byte : (s : List ℕ) (at w : ℕ) → (at + w) % 8 ≡ 0 → getD s ((at + w) / 8) 0 < 256 → cut s at w * 256 + getD s ((at + w) / 8) 0 ≡ cut s at (w + 8)
+cut-byte s at w h l =
+    let b = getD s ((at + w) / 8) 0 in
+    omega (arith, bits-more s at w 8 h (omega arith), eqb→eq (behind 0 b 8) b (below made 256 tt b l))

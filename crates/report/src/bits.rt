@@ -1,4 +1,5 @@
 // The bits of an item, cut out of the data at any bit by shift and mask.
+use frame::header::byte_at;
 ghost use mathlib.Core.Path.{_≡_};
 ghost use Prim.Native.Nat.{_≤_, _<_};
 ghost use Rattle.report.specs.Bits.{bitAt, cut};
@@ -15,14 +16,22 @@ fn bit_at(s: &[u8], i: usize) -> u8
     }
 }
 
-// The number that so many bits from a place on make.
+// The number that so many bits from a place on make. Where a whole byte starts there it is taken at once.
 pub(crate) fn cut_bits(s: &[u8], at: usize, width: u8) -> u32
     requires { ⌜ (at < 1000) × (width ≤ 32) ⌝ }
     ensures { λ r. ⌜ r ≡ cut (now (s .entry)) at width ⌝ }
 {
     let mut raw: u32 = 0;
-    for w in 0..width {
-        raw = raw * 2 + bit_at(s, at + w as usize) as u32;
+    let mut w: u8 = 0;
+    while w < width {
+        let i = at + w as usize;
+        if i % 8 == 0 && 8 <= width - w {
+            raw = raw * 256 + byte_at(s, i / 8) as u32;
+            w += 8;
+        } else {
+            raw = raw * 2 + bit_at(s, i) as u32;
+            w += 1;
+        }
     }
     raw
 }

@@ -1,10 +1,11 @@
--- After w turns the number is that of the first w bits, which is below 2 ^ w.
-use mathlib.Core.Path.{_≡_, ap, _∙_}
-use Prim.Native.Nat.{_+_, _-_, _≤_}
+-- After so many bits the number is theirs, which is below that power of 2.
+use mathlib.Core.Path.{_≡_, sym, ap, subst, _∙_}
+use Prim.Native.Nat.{_+_, _-_, _≤_, _<_, _/_}
 use native.Mathlib.Omega.{arith}
 use borrow.Author.Needs.{needs}
+use borrow.Author.Tests.{leb-true}
 use Rattle.report.specs.Bits.{cut}
-use Rattle.report.proofs.BitsLaws.{bit-lt, cut-next, cut-below}
+use Rattle.report.proofs.BitsLaws.{bit-lt, cut-next, cut-below, cut-byte}
 use Rattle.report.proofs.bits.cut_bits.Statement.{statement}
 use Rattle.report.proofs.bits.cut_bits.Tie as tie
 
@@ -18,29 +19,32 @@ loop-holds : tie.Need-loop-holds Inv-loop μ-loop
 unfolding cut
 loop-holds c = omega arith
 
+cast-i : tie.Need-cast-i Inv-loop μ-loop
+cast-i c = search needs
+
+add-i : tie.Need-add-i Inv-loop μ-loop
+add-i c = search needs
+
+sub-if2 : tie.Need-sub-if2 Inv-loop μ-loop
+sub-if2 c = search needs
+
 mul-raw : tie.Need-mul-raw Inv-loop μ-loop
 mul-raw c =
-    let a = c .before .before .before .args in
-    let w = c .before .loop .w in
-    omega (arith, cut-below (a .s .now) (a .at) w 31 (omega arith))
+    let a = c .before .before .before .before .before .args in
+    let w = c .before .before .before .loop .w in
+    omega (arith, cut-below (a .s .now) (a .at) w 24 (omega (arith, leb-true 8 (a .width - w) (c .if2 .taken), c .before .before .before .before .before .pre .1)))
 
-cast-bit-at : tie.Need-cast-bit-at Inv-loop μ-loop
-cast-bit-at c = search needs
-
-add-bit-at : tie.Need-add-bit-at Inv-loop μ-loop
-add-bit-at c = search needs
-
-bit-at-requires : tie.Need-bit-at-requires Inv-loop μ-loop
-bit-at-requires c κs = search needs
+byte-at-requires : tie.Need-byte-at-requires Inv-loop μ-loop
+byte-at-requires c κs = search needs
 
 cast-raw : tie.Need-cast-raw Inv-loop μ-loop
 cast-raw c = search needs
 
 add-raw : tie.Need-add-raw Inv-loop μ-loop
 add-raw c =
-    let a = c .before .before .before .before .args in
-    let w = c .before .before .loop .w in
-    omega (arith, cut-below (a .s .now) (a .at) w 31 (omega arith), bit-lt (a .s .now) (a .at + w))
+    let a = c .before .before .before .before .before .before .args in
+    let w = c .before .before .before .before .loop .w in
+    omega (arith, cut-below (a .s .now) (a .at) w 24 (omega (arith, leb-true 8 (a .width - w) (c .before .if2 .taken), c .before .before .before .before .before .before .pre .1)))
 
 add-w : tie.Need-add-w Inv-loop μ-loop
 add-w c = search needs
@@ -50,8 +54,40 @@ loop-less c = search needs
 
 loop-again : tie.Need-loop-again Inv-loop μ-loop
 loop-again c =
+    let a = c .before .before .before .before .before .before .args in
+    let w = c .before .before .before .before .loop .w in
+    let told = c .byte-at .ensures in
+    (omega (arith, leb-true 8 (a .width - w) (c .before .if2 .taken)), omega (arith, told, cut-byte (a .s .now) (a .at) w (omega arith) (omega (arith, told))))
+
+mul-raw-2 : tie.Need-mul-raw-2 Inv-loop μ-loop
+mul-raw-2 c =
     let a = c .before .before .before .before .args in
-    omega (arith, cut-next (a .s .now) (a .at) (c .before .before .loop .w))
+    let w = c .before .before .loop .w in
+    omega (arith, cut-below (a .s .now) (a .at) w 31 (omega arith))
+
+bit-at-requires : tie.Need-bit-at-requires Inv-loop μ-loop
+bit-at-requires c κs = search needs
+
+cast-raw-2 : tie.Need-cast-raw-2 Inv-loop μ-loop
+cast-raw-2 c = search needs
+
+add-raw-2 : tie.Need-add-raw-2 Inv-loop μ-loop
+add-raw-2 c =
+    let a = c .before .before .before .before .before .args in
+    let w = c .before .before .before .loop .w in
+    omega (arith, cut-below (a .s .now) (a .at) w 31 (omega arith), bit-lt (a .s .now) (a .at + w))
+
+add-w-2 : tie.Need-add-w-2 Inv-loop μ-loop
+add-w-2 c = search needs
+
+loop-less-2 : tie.Need-loop-less-2 Inv-loop μ-loop
+loop-less-2 c = search needs
+
+loop-again-2 : tie.Need-loop-again-2 Inv-loop μ-loop
+loop-again-2 c =
+    let a = c .before .before .before .before .before .args in
+    let w = c .before .before .before .loop .w in
+    omega (arith, cut-next (a .s .now) (a .at) w)
 
 returns : tie.Need-returns Inv-loop μ-loop
 returns c =
@@ -65,13 +101,21 @@ cut-bits-spec =
     Inv-loop
     μ-loop
     loop-holds
+    cast-i
+    add-i
+    sub-if2
     mul-raw
-    cast-bit-at
-    add-bit-at
-    bit-at-requires
+    byte-at-requires
     cast-raw
     add-raw
     add-w
     loop-less
     loop-again
+    mul-raw-2
+    bit-at-requires
+    cast-raw-2
+    add-raw-2
+    add-w-2
+    loop-less-2
+    loop-again-2
     returns)
