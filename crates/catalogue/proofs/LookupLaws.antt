@@ -1,6 +1,6 @@
 -- Laws of the lookups: what the layers above cite.
 use mathlib.Core.Path.{_≡_, refl, sym, ap, _∙_, subst}
-use mathlib.Core.Bool.{true}
+use mathlib.Core.Bool.{true, false}
 use mathlib.Core.Option.{Option, none, some}
 use mathlib.Core.List.{List, []}
 use Prim.Native.Nat.{ℕ, min, _≤_, _<_}
@@ -40,10 +40,11 @@ pub layout-told : (s : List ℕ) (a b x y : ℕ) → layoutOf (layoutFound (reco
 unfolding catalogue
 layout-told s a b x y = layout-value (recordWith (layoutKey a b x y) s)
 
-pub layout-sized : (o : Option (List ℕ)) → (layoutFound o .count ≤ 16) × (length (layoutFound o .prns) ≡ 16)
+-- At most sixteen PRNs, and none where there is no layout.
+pub layout-sized : (o : Option (List ℕ)) → (layoutFound o .count ≤ 16) × (length (layoutFound o .prns) ≡ 16) × (layoutFound o .found ≡ false → layoutFound o .count ≡ 0)
 unfolding layoutFound
-layout-sized none = (omega arith, refl)
-layout-sized (some r) = (omega arith, length-numbers 16 6 r)
+layout-sized none = (omega arith, refl, λ e. refl)
+layout-sized (some r) = (omega arith, length-numbers 16 6 r, λ e. let z : _≡_ {A = ℕ} 0 1 = cc in omega arith)
 
 -- A record that a key finds in an accepted supplement has that kind and is in range.
 own-record :

@@ -181,24 +181,18 @@ unfolding placeAfter
 after-inside c items p [] h = h
 after-inside c items p (prn ∷ prns) h = after-inside c items (next c items p prn) prns (next-inside c items p prn h)
 
-turned : (b t : Bool) → not b ≡ t → b ≡ not t
-turned true t e = ap not e
-turned false t e = ap not e
-
 -- The lines of a group, with a layout and without.
-module _ (c : Catalogue) (items : List ℕ) (l : Layout) where
-  pub group-none : not (l .found) ≡ true → Unknown 8 ∷ [] ≡ groupLines (groupOf c items (layoutOf l) ∷ [])
-  unfolding groupOf groupLines
-  group-none f = rw (turned (l .found) true f) refl
-
-  pub group-some :
-      not (l .found) ≡ false
-      → (lines : List Line) (r : Line)
-      → lines ≡ itemLines c items (Bit 0) (take (l .count) (l .prns))
-      → r ≡ remainderAt items (placeAfter c items (Bit 0) (take (l .count) (l .prns)))
-      → (lines ++ r ∷ []) ≡ groupLines (groupOf c items (layoutOf l) ∷ [])
-  unfolding groupOf groupLines
-  group-some f lines r p q = rw (turned (l .found) false f) (λ i. p i ++ q i ∷ [])
+pub group-lines :
+    (c : Catalogue) (items : List ℕ) (found : Bool) (count : ℕ) (prns : List ℕ) (lines : List Line) (r : Line)
+    → (found ≡ false → count ≡ 0)
+    → lines ≡ itemLines c items (Bit 0) (take count prns)
+    → r ≡ cond found (remainderAt items (placeAfter c items (Bit 0) (take count prns))) (Unknown 8)
+    → (lines ++ r ∷ []) ≡ groupLines (groupOf c items (cond found (some (take count prns)) none) ∷ [])
+unfolding groupOf groupLines itemLines
+group-lines c items true count prns lines r bare p q = λ i. p i ++ q i ∷ []
+group-lines c items false count prns lines r bare p q =
+    let empty : lines ≡ [] = p ∙ ap (λ (n : ℕ). itemLines c items (Bit 0) (take n prns)) (bare refl) in
+    λ i. empty i ++ q i ∷ []
 
 -- The lines of a report, from those of its group and its response.
 pub report-lines :

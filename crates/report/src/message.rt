@@ -5,17 +5,18 @@ use crate::line::Held;
 use crate::line::Line;
 use crate::rows::BYTE_ROW;
 use crate::tally::Tally;
-use crate::tally::no_lines;
 use crate::tally::tallied;
 use crate::verdict::verdict_of;
 use catalogue::lookup::Layout;
 use catalogue::lookup::find_layout;
 ghost use mathlib.Core.Path.{_≡_};
+ghost use mathlib.Core.Bool.{false, cond};
 ghost use mathlib.Core.List.{_∷_, [], _++_};
 ghost use Prim.Native.Nat.{_+_, _≤_, _<_};
 ghost use lib.ListN.{length, drop};
 ghost use Rattle.catalogue.specs.Supplement.{Accepted};
 ghost use Rattle.catalogue.specs.Lookup.{catalogue, layoutOf};
+ghost use Rattle.report.specs.declared.line.Line.the-variants.{Unknown};
 ghost use Rattle.report.specs.Items.{Inside};
 ghost use Rattle.report.specs.Report.{remainderAt, responseLine, layoutSought, groupOf, groupLines, reportOf, linesOf, verdictOf};
 ghost use Rattle.report.specs.Rows.{holdsNumber, allHold, firstLines, rowsOf};
@@ -45,7 +46,7 @@ fn items_of(body: &[u8]) -> &[u8]
 // The layout of a message's key, the selector absent if there are no data.
 fn sought(s: &[u8], first: u8, target: u8, body: &[u8]) -> Layout
     ensures layout { λ r. ⌜ layoutOf r ≡ layoutSought (catalogue (now (s .entry))) (record { first = first; target = target; body = now (body .entry); kind = 0 }) ⌝ }
-    ensures sized { λ r. ⌜ (r .count ≤ 16) × (length (r .prns) ≡ 16) ⌝ }
+    ensures sized { λ r. ⌜ (r .count ≤ 16) × (length (r .prns) ≡ 16) × (r .found ≡ false → r .count ≡ 0) ⌝ }
 {
     if body.len() == 0 {
         return find_layout(s, first, target, 0, 0);
@@ -62,6 +63,19 @@ fn remainder_line(items: &[u8], place: Place) -> Line
         Place::Bit(at) => Line::Left((items.len() * 8 - at) as u8),
         Place::Lost => Line::Unknown(2),
         Place::Past => Line::Short,
+    }
+}
+
+// The remainder of a layout; without one it says so.
+fn group_remainder(items: &[u8], found: bool, place: Place) -> Line
+    requires { ⌜ (length (now items) ≤ 12) × Inside (now items) place ⌝ }
+    ensures shows { λ r. ⌜ r ≡ cond found (remainderAt (now (items .entry)) place) (Unknown 8) ⌝ }
+    ensures number { λ r. ⌜ holdsNumber r ⌝ }
+{
+    if found {
+        remainder_line(items, place)
+    } else {
+        Line::Unknown(8)
     }
 }
 
@@ -84,31 +98,24 @@ struct Group {
     tally: Tally,
 }
 
-// The lines of a layout; without one none, and the remainder says so.
+// The lines of a layout; without one none. Both go one way, since the lines would be copied where two ways meet.
 fn group_of(s: &[u8], items: &[u8], layout: Layout) -> Group
-    requires { ⌜ Accepted (now s) × (length (now items) ≤ 12) × (layout .count ≤ 16) × (length (layout .prns) ≡ 16) ⌝ }
+    requires { ⌜ Accepted (now s) × (length (now items) ≤ 12) × (layout .count ≤ 16) × (length (layout .prns) ≡ 16) × (layout .found ≡ false → layout .count ≡ 0) ⌝ }
     ensures shows { λ r. ⌜ (firstLines (r .count) (r .lines) ++ r .remainder ∷ []) ≡ groupLines (groupOf (catalogue (now (s .entry))) (now (items .entry)) (layoutOf layout) ∷ []) ⌝ }
     ensures sized { λ r. ⌜ (r .count ≤ 16) × (length (r .lines) ≡ 16) ⌝ }
     ensures number { λ r. ⌜ allHold (firstLines (r .count) (r .lines)) × holdsNumber (r .remainder) ⌝ }
     ensures tally { λ r. ⌜ Tallies (r .tally) (firstLines (r .count) (r .lines) ++ r .remainder ∷ []) ⌝ }
 {
-    if !layout.found {
-        let remainder = Line::Unknown(8);
-        return Group {
-            lines: [Held { line: Line::Short }; 16],
-            count: 0,
-            remainder,
-            tally: tallied(no_lines(), remainder),
-        };
-    }
+    let found = layout.found;
+    let count = layout.count;
     let shown = item_lines(s, items, layout);
     let lines = shown.lines;
     let place = shown.place;
     let tally = shown.tally;
-    let remainder = remainder_line(items, place);
+    let remainder = group_remainder(items, found, place);
     Group {
         lines,
-        count: layout.count,
+        count,
         remainder,
         tally: tallied(tally, remainder),
     }

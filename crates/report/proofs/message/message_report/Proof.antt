@@ -27,7 +27,7 @@ group-of-requires : tie.Need-group-of-requires
 group-of-requires c κs =
     let pre = c .before .before .before .before .pre in
     let body = c .before .before .before .before .args .body .now in
-    (pre .0, omega (arith, pre .1, ap length (c .items-of .ensures) ∙ length-drop 1 body), c .before .sought .ensures .1 .0, c .before .sought .ensures .1 .1)
+    (pre .0, omega (arith, pre .1, ap length (c .items-of .ensures) ∙ length-drop 1 body), c .before .sought .ensures .1 .0, c .before .sought .ensures .1 .1, c .before .sought .ensures .1 .2)
 
 response-line-requires : tie.Need-response-line-requires
 response-line-requires c κs = search needs

@@ -1,5 +1,6 @@
 -- With data the first byte is the selector, without it is absent.
 use mathlib.Core.Path.{_≡_, sym, ap, _∙_, subst}
+use mathlib.Core.Bool.{false}
 use Prim.Native.Nat.{_≤_}
 use lib.ListN.{length, getD}
 use Rattle.catalogue.specs.Supplement.{recordWith}
@@ -16,7 +17,7 @@ find-layout-requires c κs = search needs
 returns : tie.Need-returns
 returns c = (
   ap layoutOf (c .find-layout .ensures) ∙ layout-told (c .before .before .before .before .args .s .now) (c .before .before .before .before .args .first) (c .before .before .before .before .args .target) 0 0 ∙ sym (sought-absent (catalogue (c .before .before .before .before .args .s .now)) (record { first = c .before .before .before .before .args .first; target = c .before .before .before .before .args .target; body = c .before .before .before .before .args .body .now; kind = 0 }) (c .before .if1 .taken)),
-  subst (λ l. (l .count ≤ 16) × (length (l .prns) ≡ 16)) (sym (c .find-layout .ensures)) (layout-sized (recordWith (layoutKey (c .before .before .before .before .args .first) (c .before .before .before .before .args .target) 0 0) (c .before .before .before .before .args .s .now))),
+  subst (λ l. (l .count ≤ 16) × (length (l .prns) ≡ 16) × (l .found ≡ false → l .count ≡ 0)) (sym (c .find-layout .ensures)) (layout-sized (recordWith (layoutKey (c .before .before .before .before .args .first) (c .before .before .before .before .args .target) 0 0) (c .before .before .before .before .args .s .now))),
 )
 
 shared-slice-read-find-layout : tie.Need-shared-slice-read-find-layout
@@ -28,7 +29,7 @@ find-layout-requires-2 c κs = search needs
 returns-2 : tie.Need-returns-2
 returns-2 c = (
   ap layoutOf (c .find-layout2 .ensures) ∙ layout-told (c .before .before .before .before .before .args .s .now) (c .before .before .before .before .before .args .first) (c .before .before .before .before .before .args .target) 1 (getD (c .before .before .before .before .before .args .body .now) 0 0) ∙ sym (sought-present (catalogue (c .before .before .before .before .before .args .s .now)) (record { first = c .before .before .before .before .before .args .first; target = c .before .before .before .before .before .args .target; body = c .before .before .before .before .before .args .body .now; kind = 0 }) (c .before .before .if1 .left)),
-  subst (λ l. (l .count ≤ 16) × (length (l .prns) ≡ 16)) (sym (c .find-layout2 .ensures)) (layout-sized (recordWith (layoutKey (c .before .before .before .before .before .args .first) (c .before .before .before .before .before .args .target) 1 (getD (c .before .before .before .before .before .args .body .now) 0 0)) (c .before .before .before .before .before .args .s .now))),
+  subst (λ l. (l .count ≤ 16) × (length (l .prns) ≡ 16) × (l .found ≡ false → l .count ≡ 0)) (sym (c .find-layout2 .ensures)) (layout-sized (recordWith (layoutKey (c .before .before .before .before .before .args .first) (c .before .before .before .before .before .args .target) 1 (getD (c .before .before .before .before .before .args .body .now) 0 0)) (c .before .before .before .before .before .args .s .now))),
 )
 
 pub sought-spec : {M : Type 1} → statement M
