@@ -40,7 +40,7 @@ cut-next s at w = rw add-one
 pub cut-below : (s : List ℕ) (at w k : ℕ) → w ≤ k → cut s at w < 2 ^ k
 cut-below s at w k h = lt-of-lt-of-le (cut-lt s at w) (pow-mono h)
 
--- Eight bits that start where a byte starts are the byte.
+-- A bit of the byte that starts at a place.
 bit-of : (s : List ℕ) (i k : ℕ) → i % 8 ≡ 0 → k < 8 → bitAt s (i + k) ≡ getD s (i / 8) 0 / 2 ^ (7 - k) % 2
 unfolding bitAt
 bit-of s i k h l =
@@ -59,9 +59,11 @@ bits-more s at w (suc k) h l =
     let there : bitAt s (at + (w + k)) ≡ getD s ((at + w) / 8) 0 / 2 ^ (7 - k) % 2 = ap (bitAt s) (omega arith) ∙ bit-of s (at + w) k h (omega arith) in
     ap (cut s at) (omega arith) ∙ sym (cut-next s at (w + k)) ∙ (λ i. bits-more s at w k h (omega arith) i * 2 + there i)
 
+-- All eight bits of a byte make the byte.
 abbrev made : ℕ → Bool
 made b = eqb (behind 0 b 8) b
 
+-- Eight bits that start where a byte starts are the byte, as the loop takes it.
 pub cut-byte : (s : List ℕ) (at w : ℕ) → (at + w) % 8 ≡ 0 → getD s ((at + w) / 8) 0 < 256 → cut s at w * 256 + getD s ((at + w) / 8) 0 ≡ cut s at (w + 8)
 cut-byte s at w h l =
     let b = getD s ((at + w) / 8) 0 in

@@ -16,7 +16,7 @@ fn bit_at(s: &[u8], i: usize) -> u8
     }
 }
 
-// The number that so many bits from a place on make. Where a whole byte starts there it is taken at once.
+// The number that so many bits from a place on make. A byte that lies whole among them is taken at once.
 pub(crate) fn cut_bits(s: &[u8], at: usize, width: u8) -> u32
     requires { ⌜ (at < 1000) × (width ≤ 32) ⌝ }
     ensures { λ r. ⌜ r ≡ cut (now (s .entry)) at width ⌝ }
