@@ -2,7 +2,9 @@
 use libc::STDIN_FILENO;
 use libc::STDOUT_FILENO;
 ghost use mathlib.Core.Path.{_≡_};
-ghost use lib.ListN.{getD, length};
+ghost use mathlib.Core.Bool.{false};
+ghost use Prim.Native.Nat.{_<_};
+ghost use lib.ListN.{getD, length, drop};
 ghost use Rattle.hex.specs.Digits.{digitValue, byteAt, bytesFrom};
 
 // A digit's value; 0 for any other character.
@@ -52,8 +54,12 @@ pub fn fill(text: &[u8], out: &mut [u8])
     }
 }
 
-// Reads so many digits, or characters between them, to the start of the text; whether all were there and had room.
-pub fn read_digits(text: &mut [u8], size: usize) -> bool {
+// Reads so many digits, or characters between them, to the start of the text; whether all were there and had room. What was read is
+// the input's; what lies behind is as it was, and without room all is.
+pub fn read_digits(text: &mut [u8], size: usize) -> bool
+    ensures room { λ r. ⌜ (length (now (text .entry)) < size → (r ≡ false) × (now (text .exit) ≡ now (text .entry))) ⌝ }
+    ensures behind { λ r. ⌜ drop size (now (text .exit)) ≡ drop size (now (text .entry)) ⌝ }
+{
     if text.len() < size {
         return false;
     }

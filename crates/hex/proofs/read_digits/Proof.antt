@@ -1,7 +1,10 @@
 -- What is read lies within the text.
-use mathlib.Core.Path.{sym}
+use mathlib.Core.Path.{_≡_, sym, ap, _∙_}
+use mathlib.Core.List.{_++_}
+use Prim.Native.Nat.{ℕ}
 use native.Mathlib.Omega.{arith}
-use lib.Seq.{length-take-le}
+use lib.ListN.{length, drop}
+use lib.Seq.{length-take-le, drop-append-seam}
 use borrow.Author.Needs.{needs}
 use Rattle.hex.proofs.read_digits.Statement.{statement}
 use Rattle.hex.proofs.read_digits.Tie as tie
@@ -22,7 +25,14 @@ same-length : tie.Need-same-length
 same-length c = search needs
 
 returns-2 : tie.Need-returns-2
-returns-2 c = search needs
+returns-2 c =
+    let text = c .before .before .before .before .before .before .args .text .now in
+    let size = c .before .before .before .before .before .before .args .size in
+    let read = c .before .before .read-full .last .1 .0 in
+    let whole : length read ≡ size = c .before .before .read-full .kept .1 .0 ∙ length-take-le size text (omega (arith, c .before .before .before .before .if1 .left)) in (
+      λ h. absurd (omega (arith, h, c .before .before .before .before .if1 .left)),
+      ap (λ (n : ℕ). drop n (read ++ drop size text)) (sym whole) ∙ drop-append-seam read (drop size text),
+    )
 
 pub read-digits-spec : {M : Type 1} → statement M
 read-digits-spec =
