@@ -1,4 +1,4 @@
--- What lines add up to, for the functions that count them as they make them.
+-- What lines add up to, for the functions that count them as they make them. No public contract cites this file.
 use Prim.Native.Nat.{ℕ, _+_}
 use mathlib.Core.Path.{_≡_}
 use mathlib.Core.Bool.{_||_}
