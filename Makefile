@@ -67,7 +67,7 @@ vectors: peer
 	rm -rf build/vectors
 	$(PEER)/vectors frame build/vectors/frame_vectors
 	$(PEER)/vectors supplement build/vectors/supplement_vectors
-	$(PEER)/vectors tables build/vectors/sae_rows
+	$(PEER)/vectors tables build/vectors/table_rows
 	$(PEER)/vectors report build/vectors/report_vectors
 	$(PEER)/vectors bench build/vectors/bench_cases
 	for f in $$(cd build/vectors && find . -type f); do cmp build/vectors/$$f crates/$$f || exit 1; done

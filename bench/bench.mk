@@ -11,7 +11,7 @@ SIZE_OF = "$$(size -t $(1) | awk 'END { print $$4 }')"
 .PHONY: bench bench-test
 
 # The rows of both SAE tables as C, from the listing that is compared with the library's own lookups.
-$(BENCH)/sae_rows.h: crates/sae_rows/stdout
+$(BENCH)/sae_rows.h: crates/table_rows/stdout
 	@mkdir -p $(BENCH)
 	{ echo 'static const struct prn_row sae_prns[] = {'; \
 	  sed -n '/^P /{s///;s/ /, 0x/g;s/.*/    {0x&},/;p;}' $<; \

@@ -4,12 +4,12 @@ use mathlib.Core.Path.{_≡_, refl}
 use mathlib.Core.List.{map}
 use lib.Ieee.{ofInt, div}
 use Rattle.frame.specs.Header.{headerSize}
-use Rattle.frame.specs.Frame.{firstBroken}
+use Rattle.frame.specs.Rule.{firstBroken}
 use Rattle.frame.specs.Reader.{readRules, readRefusal}
-use Rattle.sae.specs.Rows.{inOrder}
-use Rattle.sae.specs.Tables.{slotRows}
-use Rattle.sae.specs.Search.{firstWhere}
-use Rattle.sae.specs.Sae.{saeSlot}
+use Rattle.catalogue.specs.Rows.{inOrder}
+use Rattle.catalogue.specs.Tables.{slotRows}
+use Rattle.catalogue.specs.Search.{firstWhere}
+use Rattle.catalogue.specs.Sae.{saeSlot}
 use Rattle.report.specs.Scaling.{signed, pattern, rawNumber, above, numberLine, withinLimits, formLine}
 use Rattle.bench_cases.specs.BenchCases.{benchCases, lineBy, answered, expected}
 

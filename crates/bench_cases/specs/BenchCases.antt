@@ -6,9 +6,9 @@ use mathlib.Core.Option.{Option, none, some}
 use lib.IntN.{ℤ, pos, negℤ}
 use lib.Ieee.{binary64, ofInt}
 use Rattle.frame.specs.Reader.{readRefusal}
-use Rattle.sae.specs.declared.sae.SlotRow.{SlotRow}
-use Rattle.sae.specs.Rows.{UNM, SNM, slot, neg}
-use Rattle.sae.specs.Sae.{saeSlot}
+use Rattle.catalogue.specs.declared.rows.SlotRow.{SlotRow}
+use Rattle.catalogue.specs.Rows.{UNM, SNM, slot, neg}
+use Rattle.catalogue.specs.Sae.{saeSlot}
 use Rattle.report.specs.declared.line.Line.{Line}
 use Rattle.report.specs.declared.line.Line.the-variants.{Number, Invalid, Unknown}
 use Rattle.report.specs.Scaling.{formLine}

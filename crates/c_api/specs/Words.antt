@@ -1,6 +1,6 @@
 -- The number that each exported call answers: the refusal in its low byte, 0 for none, and what was accepted above it.
 use Prim.Native.Nat.{ℕ, _+_, _*_, _^_}
-use Rattle.frame.specs.Frame.{Outcome, refused, accepted}
+use Rattle.frame.specs.Rule.{Outcome, refused, accepted}
 use Rattle.frame.specs.Reader.{Sizes}
 use Rattle.frame.specs.Writer.{Runs}
 use Rattle.catalogue.specs.declared.supplement.Checked.{Checked}

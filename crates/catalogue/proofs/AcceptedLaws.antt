@@ -10,9 +10,9 @@ use borrow.Author.Tests.{eq-eqb, eqb-true, eqb-false, ltb-true, ltb-false, le-lt
 use lib.Dec.{eqb, ltb}
 use lib.ListN.{length, take, drop, getD, length-take}
 use lib.Seq.{getD-take, length-take-le}
-use Rattle.frame.proofs.Bytes.{cases}
-use Rattle.sae.specs.Search.{firstWhere, isFound}
-use Rattle.sae.proofs.SearchLaws.{both, found-is, none-is, none-found, not-found}
+use Rattle.frame.proofs.ByteLaws.{cases}
+use Rattle.catalogue.specs.Search.{firstWhere, isFound}
+use Rattle.catalogue.proofs.SearchLaws.{both, found-is, none-is, none-found, not-found}
 use Rattle.catalogue.specs.declared.supplement.Checked.{Checked}
 use Rattle.catalogue.specs.Record.{recordSize, keySize, kindOf, keyOf, hasKey, inRange, inSae, fault}
 use Rattle.catalogue.specs.Supplement.{recordsIn, recordsOf, checkFrom, check, Accepted, Sound, Distinct, Obeys, Stands, recordWith}

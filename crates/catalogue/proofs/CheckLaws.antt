@@ -9,15 +9,16 @@ use borrow.Author.Tests.{lt-ltb, le-ltb, ltb-false, le-leb, lt-leb, leb-false, e
 use lib.Dec.{ltb, eqb, lit<}
 use lib.ListN.{length, take, drop, getD, length-take, length-drop, drop-of-length-le}
 use lib.Seq.{getD-take, getD-drop}
-use Rattle.frame.proofs.Bytes.{cases}
-use Rattle.frame.specs.Frame.{Rule, firstBroken}
-use Rattle.frame.proofs.FrameLaws.{kept, last-kept, none-broken}
-use Rattle.sae.specs.Search.{firstWhere, isFound}
+use Rattle.frame.proofs.ByteLaws.{cases}
+use Rattle.frame.specs.Rule.{Rule, firstBroken}
+use Rattle.frame.proofs.RuleLaws.{kept, last-kept, none-broken}
+use Rattle.catalogue.specs.Search.{firstWhere, isFound}
 use Rattle.catalogue.specs.declared.supplement.Checked.{Checked}
 use Rattle.catalogue.specs.Record.{recordSize, kindOf, keyOf, hasKey, inRange, inSae, faultRules, fault}
-use Rattle.catalogue.specs.Supplement.{recordsIn, recordsOf, recordFrom, checkFrom, check}
+use Rattle.catalogue.specs.Supplement.{recordsIn, recordsOf, checkFrom, check, Whole}
+use Rattle.catalogue.specs.Contracts.{recordFrom}
 use Rattle.catalogue.proofs.RecordLaws.{size-positive}
-use Rattle.catalogue.proofs.SupplementLaws.{Whole, records-nil, records-from, records-more}
+use Rattle.catalogue.proofs.SupplementLaws.{records-nil, records-from, records-more}
 
 -- A record without fault, said without an order.
 pub record Free (seen : List (List ℕ)) (r : List ℕ) : Type 0 where

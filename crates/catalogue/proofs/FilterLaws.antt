@@ -12,10 +12,10 @@ use lib.Dec.{eqb}
 use lib.ListN.{length, getD, set, length-set}
 use lib.Pow.{pow-pos, pow-lt}
 use lib.Seq.{getD-set-same, getD-set-other}
-use Rattle.frame.proofs.Bytes.{cases}
-use Rattle.sae.specs.Search.{firstWhere, isFound}
+use Rattle.frame.proofs.ByteLaws.{cases}
+use Rattle.catalogue.specs.Search.{firstWhere, isFound}
 use Rattle.catalogue.specs.Record.{recordSize, kindOf, keyOf, hasKey}
-use Rattle.catalogue.specs.Filter.{bitOf, wordOf, marked, Marks, Covers}
+use Rattle.catalogue.specs.Contracts.{bitOf, wordOf, marked, Marks, Covers}
 use Rattle.catalogue.proofs.AcceptedLaws.{own-key, differs-new}
 
 -- A bit of two words joined is set where one of them has it.

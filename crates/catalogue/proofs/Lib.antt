@@ -1,4 +1,7 @@
 -- Laws that belong to no one function.
+pub mod SearchLaws
+pub mod RowLaws
+pub mod TableLaws
 pub mod FilterLaws
 pub mod RecordLaws
 pub mod SupplementLaws

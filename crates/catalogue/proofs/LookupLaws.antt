@@ -9,13 +9,13 @@ use borrow.Author.Tests.{leb-true, leb-false}
 use lib.Dec.{leb}
 use lib.ListN.{length, take, getD, replicate, length-take}
 use lib.Seq.{take-all, getD-take}
-use Rattle.frame.proofs.Bytes.{cases}
-use Rattle.sae.specs.declared.sae.PrnRow.{PrnRow}
-use Rattle.sae.specs.declared.sae.SlotRow.{SlotRow}
-use Rattle.sae.specs.Rows.{prnFits, slotFits}
-use Rattle.sae.specs.Sae.{saePrn, saeSlot}
-use Rattle.sae.proofs.SearchLaws.{found-is}
-use Rattle.sae.proofs.TableLaws.{sae-prn-fits, sae-slot-fits}
+use Rattle.frame.proofs.ByteLaws.{cases}
+use Rattle.catalogue.specs.declared.rows.PrnRow.{PrnRow}
+use Rattle.catalogue.specs.declared.rows.SlotRow.{SlotRow}
+use Rattle.catalogue.specs.Rows.{prnFits, slotFits}
+use Rattle.catalogue.specs.Sae.{saePrn, saeSlot}
+use Rattle.catalogue.proofs.SearchLaws.{found-is}
+use Rattle.catalogue.proofs.TableLaws.{sae-prn-fits, sae-slot-fits}
 use Rattle.catalogue.specs.Record.{kindOf, hasKey, prnRow, slotRow, layoutRow, numbers, inRange}
 use Rattle.catalogue.specs.Supplement.{recordsOf, Accepted, recordWith}
 use Rattle.catalogue.specs.Lookup.{prnKey, slotKey, layoutKey, orElse, catalogue, layoutFound, layoutOf}

@@ -10,10 +10,10 @@ use lib.Bits.{bitOr, or-add-and, and-le-r}
 use lib.Dec.{eqb}
 use lib.ListN.{length, drop, getD, drop-of-length-le}
 use lib.Seq.{drop-cons}
-use Rattle.frame.proofs.Bytes.{cases}
-use Rattle.sae.specs.Rows.{prnFits, slotFits}
-use Rattle.sae.specs.Search.{isFound}
-use Rattle.sae.specs.Sae.{saePrn, saeSlot}
+use Rattle.frame.proofs.ByteLaws.{cases}
+use Rattle.catalogue.specs.Rows.{prnFits, slotFits}
+use Rattle.catalogue.specs.Search.{isFound}
+use Rattle.catalogue.specs.Sae.{saePrn, saeSlot}
 use Rattle.catalogue.specs.Record.{recordSize, keySize, kindOf, hasKey, two, slotRow, prnRow, numbers, allZero, layoutFits, inRange, inSae}
 
 -- A table by kind has its first entry again for every kind that is not 1, 2 or 3.

@@ -10,11 +10,12 @@ use borrow.Author.Tests.{leb-true, leb-false}
 use lib.Dec.{leb}
 use lib.ListN.{length, take, drop, getD, length-drop, length-take, length-append, drop-of-length-le}
 use lib.Seq.{take-append-le, drop-append-le, take-length, drop-length, length-take-le, take-all, drop-drop, take-add, getD-drop, getD-take, take-take}
-use Rattle.frame.proofs.Bytes.{cases}
+use Rattle.frame.proofs.ByteLaws.{cases}
 use mathlib.Core.Option.{none, some}
-use Rattle.sae.specs.Search.{firstWhere}
+use Rattle.catalogue.specs.Search.{firstWhere}
 use Rattle.catalogue.specs.Record.{recordSize, kindOf, hasKey}
-use Rattle.catalogue.specs.Supplement.{recordsIn, recordsOf, recordFrom}
+use Rattle.catalogue.specs.Supplement.{recordsIn, recordsOf, Whole}
+use Rattle.catalogue.specs.Contracts.{recordFrom}
 use Rattle.catalogue.proofs.RecordLaws.{size-positive}
 
 -- More turns than bytes change nothing.
@@ -73,10 +74,6 @@ records-from s at h =
 pub from-length : (s : List ℕ) (at : ℕ) → at < length s → (0 < length (recordFrom s at)) × (at + length (recordFrom s at) ≤ length s)
 from-length s at h =
     omega (arith, length-take (recordSize (getD s at 0)) (drop at s), length-drop at s, size-positive (getD s at 0))
-
--- Every record of a run is whole: none is cut by its end.
-abbrev pub Whole : List ℕ → Type 0
-Whole s = (r : List ℕ) → List·Memᴰ r (recordsOf s) → length r ≡ recordSize (kindOf r)
 
 pub whole-nil : Whole []
 whole-nil r m = absurd (List·Memᴰ·not-nil (subst (List·Memᴰ r) records-nil m))

@@ -5,13 +5,13 @@ use mathlib.Core.Option.{Option, none, some}
 use mathlib.Core.List.{List, [], _∷_, _++_, List·Memᴰ, List·Memᴰ·append-cases, Memᴰ·append-left, Memᴰ·append-right}
 use Prim.Native.Nat.{ℕ, _<_}
 use native.Mathlib.Omega.{arith}
-use Rattle.sae.specs.Search.{firstWhere}
-use Rattle.sae.specs.Sae.{saePrn, saeSlot}
-use Rattle.sae.proofs.SearchLaws.{found-is}
+use Rattle.catalogue.specs.Search.{firstWhere}
+use Rattle.catalogue.specs.Sae.{saePrn, saeSlot}
+use Rattle.catalogue.proofs.SearchLaws.{found-is}
 use Rattle.catalogue.specs.Record.{keySize, hasKey, slotRow, prnRow, layoutRow}
-use Rattle.catalogue.specs.Supplement.{recordsOf, Accepted, Stands, recordWith}
+use Rattle.catalogue.specs.Supplement.{recordsOf, Accepted, Stands, recordWith, Among, Whole}
 use Rattle.catalogue.specs.Lookup.{prnKey, slotKey, layoutKey, orElse, catalogue, Within}
-use Rattle.catalogue.proofs.SupplementLaws.{Whole, records-append}
+use Rattle.catalogue.proofs.SupplementLaws.{records-append}
 use Rattle.catalogue.proofs.AcceptedLaws.{FullKey, found-again, sound}
 
 -- The SAE tables first, then a record: with what the first search finds, the second answers the same.
@@ -37,10 +37,6 @@ slot-full f w n = record { some = omega arith; size = refl }
 layout-full : (a b x y : ℕ) → FullKey (layoutKey a b x y)
 unfolding keySize
 layout-full a b x y = record { some = omega arith; size = refl }
-
--- Every record of the first supplement stands in the second.
-abbrev pub Among : List ℕ → List ℕ → Type 0
-Among s t = (r : List ℕ) → Stands r s → Stands r t
 
 -- Whatever a key finds in the first supplement it finds in the second, if the first's records stand there.
 pub found-within : (s t : List ℕ) → Accepted t → Among s t → (key : List ℕ) → FullKey key → (r : List ℕ) → recordWith key s ≡ some r → recordWith key t ≡ some r

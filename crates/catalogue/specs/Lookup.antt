@@ -5,9 +5,9 @@ use mathlib.Core.Bool.{Bool, true, false, cond}
 use mathlib.Core.List.{List, [], _∷_}
 use mathlib.Core.Option.{Option, none, some}
 use lib.ListN.{take, getD, replicate}
-use Rattle.sae.specs.declared.sae.PrnRow.{PrnRow}
-use Rattle.sae.specs.declared.sae.SlotRow.{SlotRow}
-use Rattle.sae.specs.Sae.{saePrn, saeSlot}
+use Rattle.catalogue.specs.declared.rows.PrnRow.{PrnRow}
+use Rattle.catalogue.specs.declared.rows.SlotRow.{SlotRow}
+use Rattle.catalogue.specs.Sae.{saePrn, saeSlot}
 use Rattle.catalogue.specs.declared.lookup.Layout.{Layout}
 use Rattle.catalogue.specs.Record.{slotRow, prnRow, layoutRow, numbers}
 use Rattle.catalogue.specs.Supplement.{recordWith}

@@ -5,12 +5,12 @@ use mathlib.Core.List.{List, [], _∷_}
 use lib.Dec.{eqb, leb, ltb}
 use lib.ListN.{length, getD, take, drop}
 use Rattle.frame.specs.Header.{priority, bitH}
-use Rattle.frame.specs.Frame.{Rule, firstBroken}
-use Rattle.sae.specs.declared.sae.PrnRow.{PrnRow}
-use Rattle.sae.specs.declared.sae.SlotRow.{SlotRow}
-use Rattle.sae.specs.Rows.{prnFits, slotFits}
-use Rattle.sae.specs.Search.{firstWhere, isFound}
-use Rattle.sae.specs.Sae.{saePrn, saeSlot}
+use Rattle.frame.specs.Rule.{Rule, firstBroken}
+use Rattle.catalogue.specs.declared.rows.PrnRow.{PrnRow}
+use Rattle.catalogue.specs.declared.rows.SlotRow.{SlotRow}
+use Rattle.catalogue.specs.Rows.{prnFits, slotFits}
+use Rattle.catalogue.specs.Search.{firstWhere, isFound}
+use Rattle.catalogue.specs.Sae.{saePrn, saeSlot}
 
 -- Bytes of a record by its kind: 1 SLOT, 2 PRN, 3 layout. An unknown kind is one byte.
 unfoldable pub recordSize : ℕ → ℕ

@@ -1,14 +1,12 @@
 -- A supplement as its records, and its test: document 01, refusals 10 to 15.
-use Prim.Native.Nat.{ℕ, zero, suc, _+_, _-_, _≤_, _<_}
-use mathlib.Core.Option.{Option, none, some}
+use Prim.Native.Nat.{ℕ, zero, suc, _+_, _≤_, _<_}
+use mathlib.Core.Option.{Option}
 use mathlib.Core.Path.{_≡_}
 use mathlib.Core.Bool.{Bool, true, false, cond}
 use mathlib.Core.List.{List, [], _∷_, _++_, List·Memᴰ}
 use lib.Dec.{eqb, ltb}
-use lib.ListN.{length, take, drop, getD}
-use Rattle.sae.specs.Search.{firstWhere}
-use Rattle.catalogue.specs.declared.supplement.RecordFound.{RecordFound}
-use Rattle.catalogue.specs.declared.supplement.RecordFound.the-variants.{Missing, At}
+use lib.ListN.{length, take, drop}
+use Rattle.catalogue.specs.Search.{firstWhere}
 use Rattle.catalogue.specs.declared.supplement.Checked.{Checked}
 use Rattle.catalogue.specs.Record.{recordSize, kindOf, keyOf, hasKey, inRange, inSae, fault}
 
@@ -22,22 +20,9 @@ recordsIn (suc n) (k ∷ s) = take (recordSize k) (k ∷ s) ∷ recordsIn n (dro
 unfoldable pub recordsOf : List ℕ → List (List ℕ)
 recordsOf s = recordsIn (length s) s
 
--- The record that starts at a place.
-abbrev pub recordFrom : List ℕ → ℕ → List ℕ
-recordFrom s at = take (recordSize (getD s at 0)) (drop at s)
-
 -- The first record with a kind and key.
 unfoldable pub recordWith : List ℕ → List ℕ → Option (List ℕ)
 recordWith key s = firstWhere (hasKey key) (recordsOf s)
-
--- The value of a search's answer: the record that stands there, and that it stands within the supplement.
-abbrev pub recordAt : List ℕ → RecordFound → Option (List ℕ)
-recordAt s Missing = none
-recordAt s (At a e) = some (take (e - a) (drop a s))
-
-abbrev pub Spanned : List ℕ → RecordFound → Type 0
-Spanned s Missing = Unit {0}
-Spanned s (At a e) = (a ≤ e) × (e ≤ length s)
 
 -- The first record with a fault gives its number and its place.
 unfoldable pub checkFrom : List (List ℕ) → ℕ → List (List ℕ) → Checked
@@ -72,3 +57,11 @@ pub record Obeys (s : List ℕ) : Type 0 where
 -- "A record stands in a supplement if one of the supplement's records has its kind and its body, byte for byte."
 abbrev pub Stands : List ℕ → List ℕ → Type 0
 Stands r s = List·Memᴰ r (recordsOf s)
+
+-- "every record of the first standing in the second too"
+abbrev pub Among : List ℕ → List ℕ → Type 0
+Among s t = (r : List ℕ) → Stands r s → Stands r t
+
+-- No record is cut by the end.
+abbrev pub Whole : List ℕ → Type 0
+Whole s = (r : List ℕ) → Stands r s → length r ≡ recordSize (kindOf r)

@@ -1,8 +1,8 @@
 // A filter of keys: a key whose bit is not set is surely new.
 use crate::record::two_at;
-use frame::header::byte_at;
+use frame::bytes::byte_at;
 ghost use mathlib.Core.Path.{_≡_};
-ghost use Rattle.catalogue.specs.Filter.{bitOf, Marks};
+ghost use Rattle.catalogue.specs.Contracts.{bitOf, Marks};
 
 // The place of a key's bit among 65,536. Two PRNs never share a bit, nor do two SLOTs of one form and width.
 fn bit_of(key: &[u8]) -> usize

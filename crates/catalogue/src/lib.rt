@@ -1,5 +1,9 @@
 // The catalogue: the SAE tables and a supplement of records together.
 mod filter;
 pub mod lookup;
-pub mod record;
+mod record;
+pub mod rows;
+mod sae;
+mod search;
 pub mod supplement;
+mod tables;

@@ -1,11 +1,11 @@
 // A record of a supplement: its size, its key and its fields.
-use frame::header::byte_at;
-use sae::ranges::prn_fits;
-use sae::ranges::slot_fits;
-use sae::sae::PrnRow;
-use sae::sae::SlotRow;
-use sae::sae::has_prn;
-use sae::sae::has_slot;
+use crate::rows::PrnRow;
+use crate::rows::SlotRow;
+use crate::rows::prn_fits;
+use crate::rows::slot_fits;
+use crate::sae::has_prn;
+use crate::sae::has_slot;
+use frame::bytes::byte_at;
 ghost use mathlib.Core.Path.{_≡_};
 ghost use Prim.Native.Nat.{_<_};
 ghost use lib.ListN.{drop};

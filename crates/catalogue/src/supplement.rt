@@ -5,15 +5,15 @@ use crate::record::in_range;
 use crate::record::in_sae;
 use crate::record::key_size;
 use crate::record::record_size;
-use frame::header::byte_at;
+use frame::bytes::byte_at;
 ghost use mathlib.Core.Path.{_≡_};
 ghost use mathlib.Core.List.{[], _∷_, _++_};
 ghost use Prim.Native.Nat.{_+_, _≤_, _<_};
 ghost use lib.ListN.{length, take, drop, getD};
-ghost use Rattle.sae.specs.Search.{firstWhere, isFound};
+ghost use Rattle.catalogue.specs.Search.{firstWhere, isFound};
 ghost use Rattle.catalogue.specs.Record.{recordSize, kindOf, keySize, keyOf, hasKey, fault};
-ghost use Rattle.catalogue.specs.Supplement.{recordFrom, recordsOf, recordWith, recordAt, Spanned, check};
-ghost use Rattle.catalogue.specs.Filter.{Covers};
+ghost use Rattle.catalogue.specs.Supplement.{recordsOf, recordWith, check};
+ghost use Rattle.catalogue.specs.Contracts.{recordFrom, recordAt, Spanned, Covers};
 
 // Where a record stands, from its first byte to behind its last.
 pub enum RecordFound {

@@ -10,7 +10,7 @@ use lib.Bits.{bitAnd, and-mask}
 use lib.Dec.{eqb, eqb→eq}
 use lib.ListN.{getD}
 use Rattle.frame.specs.Header.{bitH, bitK, typeTable, kindNumber, headerSize, messageType, responseKind, kindOf}
-use Rattle.frame.proofs.Bytes.{below}
+use Rattle.frame.proofs.ByteLaws.{below}
 
 -- Bit 4, moved down and masked, is H.
 pub masked-h : (b : ℕ) → bitAnd (b / 16) 1 ≡ bitH b

@@ -1,8 +1,9 @@
 -- Laws that belong to no one function.
-pub mod Bytes
+pub mod ByteLaws
+pub mod PlacedLaws
+pub mod RuleLaws
 pub mod CheckByteLaws
 pub mod HeaderLaws
-pub mod FrameLaws
 pub mod ReaderLaws
 pub mod WriterLaws
 pub mod RoundTrip

@@ -13,11 +13,12 @@ use Rattle.frame.specs.declared.header.ResponseKind.{ResponseKind}
 use Rattle.frame.specs.declared.header.ResponseKind.the-variants.{Empty, Single, Several, Data, Unassigned}
 use Rattle.frame.specs.CheckByte.{isSealed}
 use Rattle.frame.specs.Header.{headerSize, kindOf, kindNumber, isUnassigned, isChecked}
-use Rattle.frame.specs.Frame.{Outcome, refused, accepted, outcome, Parts, Rule, firstBroken, wrongCount}
+use Rattle.frame.specs.Frame.{Parts, wrongCount}
+use Rattle.frame.specs.Rule.{Outcome, refused, accepted, outcome, Rule, firstBroken}
 use Rattle.frame.specs.Reader.{answerSize, readRules, readRefusal, partsOf, readFrame, ResponseObeys, Obeys, Sizes, sizes}
-use Rattle.frame.proofs.Bytes.{cases}
+use Rattle.frame.proofs.ByteLaws.{cases}
 use Rattle.frame.proofs.HeaderLaws.{header-range}
-use Rattle.frame.proofs.FrameLaws.{kept, last-kept, none-broken, unrefused-is, refused-is}
+use Rattle.frame.proofs.RuleLaws.{kept, last-kept, none-broken, unrefused-is, refused-is}
 
 -- Rules 4 to 6 are kept exactly when the response is what its kind asks for.
 pub record ResponseKept (kind : ResponseKind) (response : List ℕ) : Type 0 where

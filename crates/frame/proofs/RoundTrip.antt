@@ -13,13 +13,14 @@ use Rattle.frame.specs.declared.header.ResponseKind.{ResponseKind}
 use Rattle.frame.specs.declared.header.ResponseKind.the-variants.{Empty, Single, Several, Data, Unassigned}
 use Rattle.frame.specs.CheckByte.{checkByte, sealed, isSealed}
 use Rattle.frame.specs.Header.{bitH, messageType, headerSize, responseKind, kindOf, isUnassigned, isChecked}
-use Rattle.frame.specs.Frame.{Outcome, refused, accepted, Frame, Parts, Rule, firstBroken, answered, wrongCount, limit}
+use Rattle.frame.specs.Frame.{Frame, Parts, answered, wrongCount, limit}
+use Rattle.frame.specs.Rule.{Outcome, refused, accepted, Rule, firstBroken}
 use Rattle.frame.specs.Reader.{answerSize, readRules, readRefusal, partsOf, readFrame, ResponseObeys, Obeys}
 use Rattle.frame.specs.Writer.{frameOf, frameSize, writeRules, writeRefusal, writeFrame}
-use Rattle.frame.proofs.Bytes.{cases}
+use Rattle.frame.proofs.ByteLaws.{cases}
 use Rattle.frame.proofs.CheckByteLaws.{length-sealed, sealed-is, sealed-again, taken-sealed}
 use Rattle.frame.proofs.HeaderLaws.{header-range, one-or-three, same-size, same-kind}
-use Rattle.frame.proofs.FrameLaws.{accepted-is, broken, kept, none-broken}
+use Rattle.frame.proofs.RuleLaws.{accepted-is, broken, kept, none-broken}
 use Rattle.frame.proofs.ReaderLaws.{ResponseKept, response-kept, obeys, read-accepts, answer-size-le}
 use Rattle.frame.proofs.WriterLaws.{Writes, writes, write-accepts, frame-total, length-answered, answered-checked, answered-plain}
 use Rattle.frame.proofs.ReaderLaws as reader

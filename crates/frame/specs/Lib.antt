@@ -1,3 +1,5 @@
+pub mod Bytes
+pub mod Rule
 pub mod CheckByte
 pub mod Header
 pub mod Frame

@@ -11,7 +11,8 @@ use Rattle.frame.specs.declared.reader.Reading.{Reading}
 use Rattle.frame.specs.declared.reader.Reading.the-variants.{Refused, Accepted}
 use Rattle.frame.specs.CheckByte.{isSealed}
 use Rattle.frame.specs.Header.{headerSize, kindOf, kindNumber, isUnassigned, isChecked}
-use Rattle.frame.specs.Frame.{Outcome, refused, accepted, outcome, Parts, Rule, firstBroken, wrongCount}
+use Rattle.frame.specs.Frame.{Parts, wrongCount}
+use Rattle.frame.specs.Rule.{Outcome, refused, accepted, outcome, Rule, firstBroken}
 
 -- The bytes of a response that are not its check byte.
 unfoldable pub answerSize : ResponseKind → ℕ → ℕ

@@ -8,7 +8,9 @@ use Rattle.frame.specs.declared.writer.Writing.{Writing}
 use Rattle.frame.specs.declared.writer.Writing.the-variants.{Refused, Written}
 use Rattle.frame.specs.CheckByte.{sealed}
 use Rattle.frame.specs.Header.{headerSize, kindOf, isUnassigned}
-use Rattle.frame.specs.Frame.{Outcome, refused, accepted, outcome, Frame, Rule, firstBroken, answered, wrongCount, placed}
+use Rattle.frame.specs.Frame.{Frame, answered, wrongCount}
+use Rattle.frame.specs.Bytes.{placed}
+use Rattle.frame.specs.Rule.{Outcome, refused, accepted, outcome, Rule, firstBroken}
 
 -- The frame of some parts: check bytes join the first run and a kind 3 response.
 unfoldable pub frameOf : List ℕ → List ℕ → List ℕ → Frame

@@ -1,6 +1,6 @@
 // The header's fields, by shift and mask, and the decision over the sixteen message types.
+use crate::bytes::byte_at;
 ghost use mathlib.Core.Path.{_≡_};
-ghost use lib.ListN.{getD};
 ghost use Rattle.frame.specs.Header.{messageType, headerSize, responseKind, kindOf, kindNumber, isUnassigned, isChecked};
 ghost use Rattle.frame.specs.Frame.{wrongCount};
 ghost use Rattle.frame.specs.Reader.{answerSize};
@@ -12,13 +12,6 @@ pub enum ResponseKind {
     Several,
     Data,
     Unassigned,
-}
-
-// A byte of a run; 0 past its end.
-pub fn byte_at(run: &[u8], i: usize) -> u8
-    ensures { λ r. ⌜ r ≡ getD (now (run .entry)) i 0 ⌝ }
-{
-    if i < run.len() { run[i] } else { 0 }
 }
 
 pub(crate) fn message_type(b: u8) -> u8

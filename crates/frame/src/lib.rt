@@ -1,4 +1,5 @@
 // Frames of SAE J1850 with consolidated headers: byte runs to parts, and parts to byte runs.
+pub mod bytes;
 pub mod check_byte;
 pub mod header;
 pub mod reader;

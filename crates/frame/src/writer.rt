@@ -1,4 +1,5 @@
 // Writing a frame: parts without check bytes to two byte runs in lent memory.
+use crate::bytes::put;
 use crate::check_byte::check_byte;
 use crate::header::ResponseKind;
 use crate::header::header_size;
@@ -11,7 +12,8 @@ ghost use mathlib.Core.List.{_∷_, [], _++_};
 ghost use Prim.Native.Nat.{_+_, _-_, _≤_, _<_};
 ghost use lib.ListN.{length, take, drop};
 ghost use Rattle.frame.specs.CheckByte.{checkByte, sealed};
-ghost use Rattle.frame.specs.Frame.{placed, answered};
+ghost use Rattle.frame.specs.Frame.{answered};
+ghost use Rattle.frame.specs.Bytes.{placed};
 ghost use Rattle.frame.specs.Writer.{frameOf, frameSize, writeRefusal, writeFrame, outAfter, runs, writingOf};
 
 // A refusal's number, or the length of each run.
@@ -62,18 +64,6 @@ fn write_refusal(header: &[u8], body: &[u8], answer: &[u8], room: usize) -> u8
         return 8;
     }
     0
-}
-
-// Copies a run into out, from a place on.
-fn put(run: &[u8], out: &mut [u8], at: usize)
-    requires { ⌜ at + length (now run) ≤ length (now out) ⌝ }
-    ensures { λ r. ⌜ now (out .exit) ≡ placed (now (out .entry)) at (now (run .entry)) ⌝ }
-{
-    let mut i: usize = 0;
-    while i < run.len() {
-        out[at + i] = run[i];
-        i += 1;
-    }
 }
 
 // Puts the check byte of what stands between two places of out at the second.

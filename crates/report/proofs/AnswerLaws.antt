@@ -6,18 +6,21 @@ use native.Mathlib.Omega.{arith}
 use borrow.Author.Tests.{lt-ltb, le-ltb, eq-eqb, ne-eqb, eqb-true, eqb-false}
 use lib.Dec.{eqb, ltb}
 use lib.ListN.{length, getD, length-append}
-use Rattle.frame.specs.Frame.{Outcome, Parts, placed}
+use Rattle.frame.specs.Frame.{Parts}
+use Rattle.frame.specs.Bytes.{placed}
+use Rattle.frame.specs.Rule.{Outcome}
 use Rattle.frame.specs.Header.{headerSize}
 use Rattle.frame.specs.Reader.{readFrame}
-use Rattle.frame.specs.Frame as frame
-use Rattle.frame.proofs.Bytes.{cases}
+use Rattle.frame.specs.Rule as frame
+use Rattle.frame.proofs.ByteLaws.{cases}
 use Rattle.frame.proofs.HeaderLaws.{three-exactly}
 use Rattle.catalogue.specs.Supplement.{check, Accepted}
 use Rattle.catalogue.specs.Lookup.{catalogue}
 use Rattle.report.specs.declared.message.Report as struct
 use Rattle.report.specs.Report.{Report, keyByte, keyTarget, messageOf, reportOf, linesOf, verdictOf, verdict}
 use Rattle.report.specs.Rows.{rowsOf, reportBytes}
-use Rattle.report.specs.Answer.{shownLines, refused, shown, fitted, answerOf, reportAnswer, outAfter, sized}
+use Rattle.report.specs.Answer.{refused, shown, fitted, answerOf, reportAnswer, outAfter, sized}
+use Rattle.report.specs.Contracts.{shownLines}
 
 -- The key of a header of three bytes, and of one.
 pub key-of-three : (h : List ℕ) → headerSize h ≡ 3 → (keyByte h ≡ getD h 0 0 % 32) × (keyTarget h ≡ getD h 1 0)

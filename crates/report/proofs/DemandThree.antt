@@ -8,12 +8,13 @@ use Prim.Native.Nat.{ℕ, zero, suc}
 use native.Mathlib.Omega.{arith}
 use lib.Dec.{eqb}
 use lib.ListN.{length, getD, getElem?}
-use Rattle.frame.specs.Frame.{Parts, accepted}
+use Rattle.frame.specs.Frame.{Parts}
+use Rattle.frame.specs.Rule.{accepted}
 use Rattle.frame.specs.Reader.{readFrame}
-use Rattle.frame.proofs.Bytes.{cases}
-use Rattle.catalogue.specs.Supplement.{Accepted}
+use Rattle.frame.proofs.ByteLaws.{cases}
+use Rattle.catalogue.specs.Supplement.{Accepted, Among}
 use Rattle.catalogue.specs.Lookup.{Catalogue, Within, catalogue}
-use Rattle.catalogue.proofs.WithinLaws.{Among, within}
+use Rattle.catalogue.proofs.WithinLaws.{within}
 use Rattle.report.specs.declared.line.Line.{Line}
 use Rattle.report.specs.declared.items.Place.the-variants.{Bit}
 use Rattle.report.specs.Report.{Message, messageOf, Group, layoutSought, itemsOf, groupOf, responseLine, reportOf, groupLines, linesOf, isUnknown, any, verdict}

@@ -10,9 +10,9 @@ use lib.Dec.{ltb, leb, eqb}
 use native.Mathlib.Numerals.{add-one}
 use lib.ListN.{length, take, drop, getD, set, length-set}
 use lib.Seq.{take-suc}
-use Rattle.frame.proofs.Bytes.{cases}
-use Rattle.sae.specs.declared.sae.PrnRow.{PrnRow}
-use Rattle.sae.specs.declared.sae.SlotRow.{SlotRow}
+use Rattle.frame.proofs.ByteLaws.{cases}
+use Rattle.catalogue.specs.declared.rows.PrnRow.{PrnRow}
+use Rattle.catalogue.specs.declared.rows.SlotRow.{SlotRow}
 use Rattle.catalogue.specs.declared.lookup.Layout.{Layout}
 use Rattle.catalogue.specs.Lookup.{Catalogue, layoutOf}
 use Rattle.report.specs.declared.items.Place.{Place}
@@ -20,15 +20,14 @@ use Rattle.report.specs.declared.items.Place.the-variants.{Bit, Lost, Pa
 use Rattle.report.specs.declared.line.Held.{Held}
 use Rattle.report.specs.declared.line.Line.{Line}
 use Rattle.report.specs.declared.tally.Tally.{Tally}
-use Rattle.report.specs.Tally.{Tallies, OneMore}
 use Rattle.report.proofs.TallyLaws.{one-tallied}
 use Rattle.report.specs.declared.line.Line.the-variants.{State, Bits, Text, Digits, Invalid, Short, Unknown}
 use Rattle.report.specs.Scaling.{formLine, numberLine, withinLimits, digitsPass, printable, decimal}
-use Rattle.sae.specs.Rows.{SNM, SED, BMP, ASC}
+use Rattle.catalogue.specs.Rows.{SNM, SED, BMP, ASC}
 use Rattle.report.proofs.ScalingLaws.{number-not-nan}
-use Rattle.report.specs.Items.{overruns, slotLine, rowLine, rowNext, itemLine, next, itemLines, placeAfter, Inside}
+use Rattle.report.specs.Items.{overruns, slotLine, rowLine, rowNext, itemLine, next, itemLines, placeAfter}
 use Rattle.report.specs.Report.{Message, layoutSought, remainderAt, responseLine, groupOf, groupLines, reportOf, linesOf}
-use Rattle.report.specs.Rows.{holdsNumber, allHold, firstLines}
+use Rattle.report.specs.Contracts.{Tallies, OneMore, Inside, holdsNumber, allHold, firstLines}
 
 pub form-high : (form width : ℕ) (slot : SlotRow) (raw : ℕ) → 7 ≤ form → formLine form width slot raw ≡ Unknown 4
 unfolding formLine

@@ -8,18 +8,19 @@ use Prim.Native.Nat.{ℕ, _+_, _-_, _*_, _≤_}
 use native.Mathlib.Omega.{arith}
 use lib.Dec.{eqb}
 use lib.ListN.{length}
-use Rattle.frame.proofs.Bytes.{cases}
-use Rattle.sae.specs.declared.sae.PrnRow.{PrnRow}
-use Rattle.sae.specs.declared.sae.SlotRow.{SlotRow}
+use Rattle.frame.proofs.ByteLaws.{cases}
+use Rattle.catalogue.specs.declared.rows.PrnRow.{PrnRow}
+use Rattle.catalogue.specs.declared.rows.SlotRow.{SlotRow}
 use Rattle.catalogue.specs.Lookup.{Catalogue}
 use Rattle.report.specs.declared.items.Place.{Place}
 use Rattle.report.specs.declared.items.Place.the-variants.{Bit, Lost, Past}
 use Rattle.report.specs.declared.line.Line.{Line}
 use Rattle.report.specs.declared.line.Line.the-variants.{Number, State, Bits, Text, Digits, Invalid, Short, Unknown, Left, Answered}
 use Rattle.report.specs.Scaling.{numberLine}
-use Rattle.report.specs.Items.{overruns, slotLine, rowLine, rowNext, itemLine, next, itemLines, placeAfter, Inside}
+use Rattle.report.specs.Items.{overruns, slotLine, rowLine, rowNext, itemLine, next, itemLines, placeAfter}
 use Rattle.report.specs.Report.{Message, Group, layoutSought, itemsOf, remainderAt, groupOf, reportOf}
 use Rattle.report.specs.Left.{widthOf, itemWidths, ShowsShort, ShowsLost, Accounted}
+use Rattle.report.specs.Contracts.{Inside}
 use Rattle.report.proofs.ItemLaws.{form-among, after-inside}
 
 -- Where a line that is Short or lost leaves the place.

@@ -8,12 +8,13 @@ use native.Mathlib.Numerals.{add-one}
 use lib.ListN.{length, take, drop, getD, set, length-append, length-take, length-map, List·getD-map}
 use lib.Seq.{length-take-le, take-suc, take-add, getD-take}
 use lib.Ieee.{binary64, nan, toBits}
-use Rattle.frame.specs.Frame.{placed}
-use Rattle.frame.proofs.WriterLaws.{stored, stored-before, placed-none, length-placed, joined}
+use Rattle.frame.specs.Bytes.{placed}
+use Rattle.frame.proofs.PlacedLaws.{stored, stored-before, placed-none, length-placed, joined}
 use Rattle.report.specs.declared.line.Line.{Line}
 use Rattle.report.specs.declared.line.Held.{Held}
 use Rattle.report.specs.declared.line.Line.the-variants.{Number, State, Bits, Text, Digits, Invalid, Short, Unknown, Left, Answered}
-use Rattle.report.specs.Rows.{bigEndian, row, holdsNumber, allHold, firstLines, rowsOf}
+use Rattle.report.specs.Rows.{bigEndian, row, rowsOf}
+use Rattle.report.specs.Contracts.{holdsNumber, allHold, firstLines}
 
 pub length-big-endian : (n x : ℕ) → length (bigEndian n x) ≡ n
 unfolding bigEndian

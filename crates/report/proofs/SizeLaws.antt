@@ -6,10 +6,11 @@ use Prim.Native.Nat.{ℕ, suc, _+_, _*_, _≤_}
 use native.Mathlib.Omega.{arith}
 use lib.Dec.{eqb, ltb}
 use lib.ListN.{length, getD}
-use Rattle.frame.specs.Frame.{Outcome, Parts}
+use Rattle.frame.specs.Frame.{Parts}
+use Rattle.frame.specs.Rule.{Outcome}
 use Rattle.frame.specs.Reader.{readFrame}
-use Rattle.frame.specs.Frame as frame
-use Rattle.frame.proofs.Bytes.{cases}
+use Rattle.frame.specs.Rule as frame
+use Rattle.frame.proofs.ByteLaws.{cases}
 use Rattle.catalogue.specs.Supplement.{check}
 use Rattle.catalogue.specs.Lookup.{Catalogue, catalogue}
 use Rattle.catalogue.proofs.CheckLaws.{place-small}

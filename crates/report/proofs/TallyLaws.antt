@@ -9,7 +9,7 @@ use Rattle.report.specs.declared.line.Line.{Line}
 use Rattle.report.specs.declared.tally.Tally.{Tally}
 use Rattle.report.specs.Report.{isFlagged, isUnknown}
 use Rattle.report.specs.Rows.{row}
-use Rattle.report.specs.Tally.{Tallies, OneMore}
+use Rattle.report.specs.Contracts.{Tallies, OneMore}
 use Rattle.report.proofs.VerdictLaws.{any-snoc}
 use Rattle.report.proofs.RowsLaws.{rows-length, rows-snoc}
 

@@ -6,10 +6,11 @@ use mathlib.Core.List.{List, [], _∷_, _++_, List·Memᴰ, List·Memᴰ·head, 
 use Prim.Native.Nat.{ℕ}
 use native.Mathlib.Omega.{arith}
 use borrow.Author.Tests.{eq-eqb, ne-eqb}
-use Rattle.frame.proofs.Bytes.{cases}
+use Rattle.frame.proofs.ByteLaws.{cases}
 use Rattle.report.specs.declared.line.Line.{Line}
 use Rattle.report.specs.declared.line.Line.the-variants.{Number, State, Bits, Text, Digits, Invalid, Short, Unknown, Left, Answered}
 use Rattle.report.specs.Report.{Report, linesOf, isFlagged, isUnknown, any, verdictOf, verdict}
+use Rattle.report.specs.Judged.{ShowsFlagged, ShowsUnknown, Judged}
 use Rattle.report.proofs.KeptLaws.{AllKept}
 
 -- A test that holds for a line of the list, and the line that it holds for.
@@ -100,13 +101,6 @@ pub verdict-is : (ls : List Line) (f u : Bool) → f ≡ any isFlagged ls → u 
 unfolding verdictOf
 verdict-is ls f u p q = λ i. cond (p i) 2 (cond (q i) 3 1)
 
--- "a line is Invalid or Short or Left is not 0"; "a line is Unknown"
-abbrev pub ShowsFlagged : List Line → Type 0
-ShowsFlagged ls = ((n : ℕ) × List·Memᴰ (Invalid n) ls) ⊎ (List·Memᴰ Short ls ⊎ ((n : ℕ) × List·Memᴰ (Left n) ls × (n ≡ 0 → ⊥)))
-
-abbrev pub ShowsUnknown : List Line → Type 0
-ShowsUnknown ls = (n : ℕ) × List·Memᴰ (Unknown n) ls
-
 -- The two tests say just that.
 flagged-shown : (ls : List Line) (l : Line) → List·Memᴰ l ls → isFlagged l ≡ true → ShowsFlagged ls
 flagged-shown ls (Number x) m e = absurd (true≢false (sym e))
@@ -157,15 +151,6 @@ by-tests false false p q = (
   (λ e. absurd (omega arith), λ x. absurd (true≢false (sym (q .1 (x .1))))),
   (λ e. (λ x. true≢false (sym (p .1 x)), λ x. true≢false (sym (q .1 x))), λ x. refl),
 )
-
--- The verdict of every report, from the lines that it shows.
-pub record Judged (r : Report) : Type 0 where
-  -- "Flagged (2) if a line is Invalid or Short or Left is not 0;
-  pub flagged : (verdict r ≡ 2) ↔ ShowsFlagged (linesOf r)
-  -- otherwise Unknown (3) if a line is Unknown;
-  pub unknown : (verdict r ≡ 3) ↔ ((ShowsFlagged (linesOf r) → ⊥) × ShowsUnknown (linesOf r))
-  -- otherwise Clear (1)"
-  pub clear : (verdict r ≡ 1) ↔ ((ShowsFlagged (linesOf r) → ⊥) × (ShowsUnknown (linesOf r) → ⊥))
 
 pub judged : (r : Report) → Judged r
 unfolding verdict verdictOf

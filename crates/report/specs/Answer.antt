@@ -1,24 +1,20 @@
 -- What the report call answers: document 01, "A report tests the supplement, then the frame, then 8."
 use Prim.Native.Nat.{ℕ}
 use mathlib.Core.Bool.{cond}
-use mathlib.Core.List.{List, [], _∷_, _++_}
+use mathlib.Core.List.{List}
 use lib.Dec.{eqb, ltb}
 use lib.ListN.{length}
-use Rattle.frame.specs.Frame.{Outcome, Parts, placed}
+use Rattle.frame.specs.Frame.{Parts}
+use Rattle.frame.specs.Bytes.{placed}
+use Rattle.frame.specs.Rule.{Outcome}
 use Rattle.frame.specs.Reader.{readFrame}
 use Rattle.catalogue.specs.Supplement.{check}
 use Rattle.catalogue.specs.Lookup.{catalogue}
-use Rattle.report.specs.declared.line.Line.{Line}
-use Rattle.report.specs.declared.message.Report.{Report}
 use Rattle.report.specs.declared.answer.Reported.{Reported}
 use Rattle.report.specs.declared.answer.Reported.the-variants.{Refused, Shown}
 use Rattle.report.specs.Report.{messageOf, reportOf}
-use Rattle.report.specs.Rows.{firstLines, reportBytes}
-use Rattle.frame.specs.Frame as frame
-
--- The lines that a report struct holds.
-abbrev pub shownLines : Report → List Line
-shownLines r = (firstLines (r .count) (r .lines) ++ r .remainder ∷ []) ++ r .response ∷ []
+use Rattle.report.specs.Rows.{reportBytes}
+use Rattle.frame.specs.Rule as frame
 
 -- "A refusal returns its number, and for 10 to 15 a place", 0 for the others; or what is shown.
 pub data Answer (A : Type 0) : Type 0 where

@@ -51,7 +51,7 @@ pub record Keeps (m : Message) (s t : List ℕ) : Type 0 where
   -- only item lines go missing,
   pub remainders : (g : ℕ) (l : Line) → lineAt (under t m) (remainder g) ≡ some l → lineAt (under s m) (remainder g) ≡ none → ⊥
   pub responses : lineAt (under s m) response ≡ none → ⊥
-  -- exactly when the layout is missing,
+  -- each exactly when the first supplement lacks the layout that the second report uses,
   pub missing :
       (g i : ℕ) (l : Line)
       → lineAt (under t m) (item g i) ≡ some l

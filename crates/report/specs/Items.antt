@@ -1,12 +1,12 @@
 -- Item lines: document 01, "The report", the first rule that applies.
-use Prim.Native.Nat.{ℕ, _+_, _*_, _≤_}
+use Prim.Native.Nat.{ℕ, _+_, _*_}
 use mathlib.Core.Bool.{Bool, cond}
 use mathlib.Core.List.{List, [], _∷_}
 use mathlib.Core.Option.{Option, none, some}
 use lib.Dec.{ltb}
 use lib.ListN.{length}
-use Rattle.sae.specs.declared.sae.PrnRow.{PrnRow}
-use Rattle.sae.specs.declared.sae.SlotRow.{SlotRow}
+use Rattle.catalogue.specs.declared.rows.PrnRow.{PrnRow}
+use Rattle.catalogue.specs.declared.rows.SlotRow.{SlotRow}
 use Rattle.catalogue.specs.Lookup.{Catalogue}
 use Rattle.report.specs.declared.items.Place.{Place}
 use Rattle.report.specs.declared.items.Place.the-variants.{Bit, Lost, Past}
@@ -53,9 +53,3 @@ itemLines c items p (prn ∷ prns) = itemLine c items p prn ∷ itemLines c item
 unfoldable pub placeAfter : Catalogue → List ℕ → Place → List ℕ → Place
 placeAfter c items p [] = p
 placeAfter c items p (prn ∷ prns) = placeAfter c items (next c items p prn) prns
-
--- A place that lies within the items.
-abbrev pub Inside : List ℕ → Place → Type 0
-Inside items (Bit at) = at ≤ 8 * length items
-Inside items Lost = Unit {0}
-Inside items Past = Unit {0}

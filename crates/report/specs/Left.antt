@@ -5,7 +5,7 @@ use mathlib.Core.Logic.{_⊎_}
 use mathlib.Core.List.{List, [], _∷_, List·Memᴰ}
 use mathlib.Core.Option.{Option, none, some}
 use lib.ListN.{length}
-use Rattle.sae.specs.declared.sae.PrnRow.{PrnRow}
+use Rattle.catalogue.specs.declared.rows.PrnRow.{PrnRow}
 use Rattle.catalogue.specs.Lookup.{Catalogue}
 use Rattle.report.specs.declared.line.Line.{Line}
 use Rattle.report.specs.declared.line.Line.the-variants.{Short, Unknown, Left}

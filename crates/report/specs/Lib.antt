@@ -3,8 +3,9 @@ pub mod Scaling
 pub mod Items
 pub mod Report
 pub mod Rows
-pub mod Tally
 pub mod Demand
 pub mod Answer
 pub mod Left
+pub mod Judged
 pub mod TwoCalls
+pub mod Contracts

@@ -1,12 +1,8 @@
 -- Rows as bytes: document 01, "As bytes, rows of kind and body".
-use mathlib.Core.Path.{_≡_}
-use mathlib.Core.Bool.{false}
 use Prim.Native.Nat.{ℕ, zero, suc, _/_, _%_, _^_}
-use mathlib.Core.List.{List, [], _∷_, _++_, map}
-use lib.ListN.{take}
-use lib.Ieee.{binary64, isNan, toBits}
+use mathlib.Core.List.{List, [], _∷_, _++_}
+use lib.Ieee.{binary64, toBits}
 use Rattle.report.specs.declared.line.Line.{Line}
-use Rattle.report.specs.declared.line.Held.{Held}
 use Rattle.report.specs.declared.line.Line.the-variants.{Number, State, Bits, Text, Digits, Invalid, Short, Unknown, Left, Answered}
 use Rattle.report.specs.Report.{Report, linesOf, verdict}
 
@@ -27,27 +23,6 @@ row Short = 7 ∷ []
 row (Unknown n) = 8 ∷ n ∷ []
 row (Left n) = 9 ∷ n ∷ []
 row (Answered n) = 10 ∷ n ∷ []
-
--- A value, where a line has one, is no NaN.
-abbrev pub holdsNumber : Line → Type 0
-holdsNumber (Number x) = isNan x ≡ false
-holdsNumber (State n) = Unit {0}
-holdsNumber (Bits n) = Unit {0}
-holdsNumber (Text n) = Unit {0}
-holdsNumber (Digits n) = Unit {0}
-holdsNumber (Invalid n) = Unit {0}
-holdsNumber Short = Unit {0}
-holdsNumber (Unknown n) = Unit {0}
-holdsNumber (Left n) = Unit {0}
-holdsNumber (Answered n) = Unit {0}
-
-unfoldable pub allHold : List Line → Type 0
-allHold [] = Unit {0}
-allHold (l ∷ ls) = holdsNumber l × allHold ls
-
--- The first lines of an array.
-abbrev pub firstLines : ℕ → List Held → List Line
-firstLines count lines = take count (map (λ (h : Held). h .line) lines)
 
 unfoldable pub rowsOf : List Line → List ℕ
 rowsOf [] = []

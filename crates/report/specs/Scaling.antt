@@ -4,8 +4,8 @@ use mathlib.Core.Bool.{Bool, true, cond, _&&_}
 use lib.Dec.{eqb, leb, ltb}
 use lib.IntN.{ℤ, pos, negℤ, _+ℤ_, _*ℤ_}
 use lib.Ieee.{binary64, ofInt, div}
-use Rattle.sae.specs.declared.sae.SlotRow.{SlotRow}
-use Rattle.sae.specs.Rows.{UNM, SNM, SED, BMP, ASC, BCD, inOrder}
+use Rattle.catalogue.specs.declared.rows.SlotRow.{SlotRow}
+use Rattle.catalogue.specs.Rows.{UNM, SNM, SED, BMP, ASC, BCD, inOrder}
 use Rattle.report.specs.declared.line.Line.{Line}
 use Rattle.report.specs.declared.line.Line.the-variants.{Number, State, Bits, Text, Digits, Invalid, Short, Unknown, Left, Answered}
 

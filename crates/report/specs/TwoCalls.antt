@@ -3,7 +3,10 @@ use Prim.Native.Nat.{ℕ, _-_}
 use mathlib.Core.Path.{_≡_}
 use mathlib.Core.List.{List}
 use lib.ListN.{length, getD}
-use Rattle.report.specs.Report.{Message}
+use Rattle.frame.specs.Frame.{Parts}
+use Rattle.frame.specs.Rule.{accepted}
+use Rattle.frame.specs.Reader.{readFrame}
+use Rattle.report.specs.Report.{messageOf}
 use Rattle.report.specs.Rows.{reportBytes}
 use Rattle.report.specs.Demand.{under, Keeps}
 
@@ -11,14 +14,16 @@ use Rattle.report.specs.Demand.{under, Keeps}
 abbrev pub verdictIn : List ℕ → ℕ
 verdictIn rows = getD rows (length rows - 1) 0
 
--- For one frame under two supplements, the rows `old` under the first and `new` under the second:
-pub record Compared (s t old new : List ℕ) : Type 0 where
-  -- both are reports of one message,
-  pub message : Message
-  pub first-rows : old ≡ reportBytes (under s message)
-  pub second-rows : new ≡ reportBytes (under t message)
+-- For one frame, given as its two runs, under two supplements: the rows `old` under the first and `new` under the second.
+pub record Compared (first response s t old new : List ℕ) : Type 0 where
+  -- The reader accepts the frame with certain parts;
+  pub parts : Parts
+  pub read : readFrame first response ≡ accepted parts
+  -- the rows are those of the message that these parts make,
+  pub first-rows : old ≡ reportBytes (under s (messageOf parts))
+  pub second-rows : new ≡ reportBytes (under t (messageOf parts))
   -- whose lines keep demand 3,
-  pub lines : Keeps message s t
+  pub lines : Keeps (messageOf parts) s t
   -- and so do the verdicts that the rows end in.
   pub clear : verdictIn old ≡ 1 → verdictIn new ≡ 1
   pub flagged : verdictIn old ≡ 2 → verdictIn new ≡ 2

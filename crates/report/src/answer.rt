@@ -2,7 +2,7 @@
 use crate::message::message_report;
 use crate::rows::put_report;
 use catalogue::supplement::check_supplement;
-use frame::header::byte_at;
+use frame::bytes::byte_at;
 use frame::header::header_size;
 use frame::reader::Reading;
 use frame::reader::read_frame;

@@ -1,5 +1,5 @@
 // The bits of an item, cut out of the data at any bit by shift and mask.
-use frame::header::byte_at;
+use frame::bytes::byte_at;
 ghost use mathlib.Core.Path.{_≡_};
 ghost use Prim.Native.Nat.{_≤_, _<_};
 ghost use Rattle.report.specs.Bits.{bitAt, cut};

@@ -9,10 +9,10 @@ use crate::tally::tallied;
 use catalogue::lookup::Layout;
 use catalogue::lookup::find_prn;
 use catalogue::lookup::find_slot;
-use sae::sae::PrnFound;
-use sae::sae::PrnRow;
-use sae::sae::SlotFound;
-use sae::sae::SlotRow;
+use catalogue::rows::PrnFound;
+use catalogue::rows::PrnRow;
+use catalogue::rows::SlotFound;
+use catalogue::rows::SlotRow;
 ghost use mathlib.Core.Path.{_≡_};
 ghost use mathlib.Core.Option.{some};
 ghost use Prim.Native.Nat.{_≤_, _<_, _*_};
@@ -22,9 +22,8 @@ ghost use Rattle.catalogue.specs.Supplement.{Accepted};
 ghost use Rattle.catalogue.specs.Lookup.{catalogue};
 ghost use Rattle.report.specs.Bits.{cut};
 ghost use Rattle.report.specs.Scaling.{formLine};
-ghost use Rattle.report.specs.Items.{slotLine, rowLine, rowNext, itemLine, next, itemLines, placeAfter, Inside};
-ghost use Rattle.report.specs.Rows.{holdsNumber, allHold, firstLines};
-ghost use Rattle.report.specs.Tally.{Tallies};
+ghost use Rattle.report.specs.Items.{slotLine, rowLine, rowNext, itemLine, next, itemLines, placeAfter};
+ghost use Rattle.report.specs.Contracts.{Inside, holdsNumber, allHold, firstLines, Tallies};
 
 // Where the next item starts: at a bit of the items; nowhere, as an earlier PRN was missing; or past the data.
 pub enum Place {

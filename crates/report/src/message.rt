@@ -17,11 +17,9 @@ ghost use lib.ListN.{length, drop};
 ghost use Rattle.catalogue.specs.Supplement.{Accepted};
 ghost use Rattle.catalogue.specs.Lookup.{catalogue, layoutOf};
 ghost use Rattle.report.specs.declared.line.Line.the-variants.{Unknown};
-ghost use Rattle.report.specs.Items.{Inside};
 ghost use Rattle.report.specs.Report.{remainderAt, responseLine, layoutSought, groupOf, groupLines, reportOf, linesOf, verdictOf};
-ghost use Rattle.report.specs.Rows.{holdsNumber, allHold, firstLines, rowsOf};
-ghost use Rattle.report.specs.Tally.{Tallies};
-ghost use Rattle.report.specs.Answer.{shownLines};
+ghost use Rattle.report.specs.Rows.{rowsOf};
+ghost use Rattle.report.specs.Contracts.{Inside, holdsNumber, allHold, firstLines, Tallies, shownLines};
 
 // Up to sixteen item lines and their count, the remainder, the response and the verdict; and how long their rows are.
 pub struct Report {

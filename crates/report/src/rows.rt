@@ -8,9 +8,9 @@ ghost use mathlib.Core.List.{[], _∷_, _++_};
 ghost use Prim.Native.Nat.{_+_, _≤_};
 ghost use lib.ListN.{length};
 ghost use lib.Ieee.{binary64, isNan, toBits};
-ghost use Rattle.frame.specs.Frame.{placed};
-ghost use Rattle.report.specs.Rows.{bigEndian, row, rowsOf, holdsNumber, allHold, firstLines};
-ghost use Rattle.report.specs.Answer.{shownLines};
+ghost use Rattle.frame.specs.Bytes.{placed};
+ghost use Rattle.report.specs.Rows.{bigEndian, row, rowsOf};
+ghost use Rattle.report.specs.Contracts.{holdsNumber, allHold, firstLines, shownLines};
 
 // A row is a byte for its kind and a body: a double, a code, a byte, or nothing.
 const DOUBLE_BYTES: usize = 8;

@@ -1,7 +1,7 @@
 // The line of an item whose SLOT is known.
 use crate::line::Line;
-use sae::ranges::in_order;
-use sae::sae::SlotRow;
+use catalogue::rows::SlotRow;
+use catalogue::rows::in_order;
 ghost use mathlib.Core.Path.{_≡_};
 ghost use Prim.Native.Nat.{_≤_, _<_, _^_, _/_, _%_};
 ghost use mathlib.Core.Bool.{cond};

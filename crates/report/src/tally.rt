@@ -7,7 +7,7 @@ ghost use mathlib.Core.Path.{_≡_};
 ghost use mathlib.Core.Bool.{_||_};
 ghost use mathlib.Core.List.{[]};
 ghost use Prim.Native.Nat.{_≤_};
-ghost use Rattle.report.specs.Tally.{Tallies, OneMore};
+ghost use Rattle.report.specs.Contracts.{Tallies, OneMore};
 
 // Whether a line flags, whether one is Unknown, and how long the rows of all are.
 pub struct Tally {

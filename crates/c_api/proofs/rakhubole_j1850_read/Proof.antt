@@ -2,7 +2,7 @@
 use mathlib.Core.Path.{_≡_, sym, ap, _∙_}
 use Prim.Native.Nat.{_≤_}
 use native.Mathlib.Omega.{arith}
-use Rattle.frame.specs.Frame.{accepted}
+use Rattle.frame.specs.Rule.{accepted}
 use Rattle.frame.specs.Reader.{readFrame, Sizes, sizes, readingOf}
 use Rattle.frame.proofs.ReaderLaws.{handed}
 use Rattle.c_api.specs.Words.{readWord}

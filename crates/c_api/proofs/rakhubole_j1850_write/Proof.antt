@@ -3,7 +3,7 @@ use mathlib.Core.Path.{_≡_, sym, ap, _∙_}
 use Prim.Native.Nat.{_≤_}
 use native.Mathlib.Omega.{arith}
 use lib.ListN.{length}
-use Rattle.frame.specs.Frame.{accepted}
+use Rattle.frame.specs.Rule.{accepted}
 use Rattle.frame.specs.Writer.{writeFrame, runs, writingOf}
 use Rattle.frame.proofs.WriterLaws.{handed}
 use Rattle.c_api.specs.Words.{writeWord}

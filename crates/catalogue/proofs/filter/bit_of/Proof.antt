@@ -1,9 +1,9 @@
 -- The bytes read are the key's, and the numbers are small.
 use Prim.Native.Nat.{_+_, _*_, _%_}
-use Rattle.catalogue.specs.Filter.{bitOf}
 use borrow.Author.Needs.{needs}
 use Rattle.catalogue.proofs.filter.bit_of.Statement.{statement}
 use Rattle.catalogue.proofs.filter.bit_of.Tie as tie
+use Rattle.catalogue.specs.Contracts.{bitOf}
 
 byte-at-requires : tie.Need-byte-at-requires
 byte-at-requires c κs = search needs

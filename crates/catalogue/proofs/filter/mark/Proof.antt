@@ -2,11 +2,11 @@
 use Prim.Native.Nat.{_<_}
 use native.Mathlib.Omega.{arith}
 use lib.ListN.{length}
-use Rattle.catalogue.specs.Filter.{wordOf}
 use Rattle.catalogue.proofs.FilterLaws.{marks-none, word-within, marks-within}
 use borrow.Author.Needs.{needs}
 use Rattle.catalogue.proofs.filter.mark.Statement.{statement}
 use Rattle.catalogue.proofs.filter.mark.Tie as tie
+use Rattle.catalogue.specs.Contracts.{wordOf}
 
 returns : tie.Need-returns
 returns c = marks-none (c .before .before .before .args .filter .now) (c .before .before .before .args .key .now) (c .if1 .taken)

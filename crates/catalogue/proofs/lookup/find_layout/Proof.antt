@@ -3,8 +3,8 @@ use mathlib.Core.Path.{_≡_, sym, ap, _∙_, subst}
 use Prim.Native.Nat.{_≤_}
 use native.Mathlib.Omega.{arith}
 use lib.ListN.{length}
-use Rattle.catalogue.specs.Supplement.{recordAt, Spanned}
 use Rattle.catalogue.specs.Lookup.{layoutFound}
+use Rattle.catalogue.specs.Contracts.{recordAt, Spanned}
 use borrow.Author.Needs.{needs}
 use Rattle.catalogue.proofs.lookup.find_layout.Statement.{statement}
 use Rattle.catalogue.proofs.lookup.find_layout.Tie as tie

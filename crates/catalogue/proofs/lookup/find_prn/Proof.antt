@@ -1,6 +1,6 @@
 -- The SAE row if there is one, else the supplement's.
 use mathlib.Core.Path.{_≡_, sym, ap, _∙_}
-use Rattle.sae.specs.Sae.{prnOf}
+use Rattle.catalogue.specs.Rows.{prnOf}
 use Rattle.catalogue.specs.Record.{prnRow}
 use Rattle.catalogue.specs.Supplement.{recordWith}
 use Rattle.catalogue.specs.Lookup.{prnKey, orElse, catalogue}

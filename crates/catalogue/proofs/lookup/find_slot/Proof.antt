@@ -1,6 +1,6 @@
 -- The SAE row if there is one, else the supplement's.
 use mathlib.Core.Path.{_≡_, sym, ap, _∙_}
-use Rattle.sae.specs.Sae.{slotOf}
+use Rattle.catalogue.specs.Rows.{slotOf}
 use Rattle.catalogue.specs.Record.{slotRow}
 use Rattle.catalogue.specs.Supplement.{recordWith}
 use Rattle.catalogue.specs.Lookup.{slotKey, orElse, catalogue}

@@ -5,8 +5,8 @@ use Prim.Native.Nat.{_≤_}
 use native.Mathlib.Omega.{arith}
 use lib.ListN.{length}
 use Rattle.catalogue.specs.Record.{prnRow}
-use Rattle.catalogue.specs.Supplement.{recordAt, Spanned}
 use Rattle.catalogue.specs.Lookup.{orElse}
+use Rattle.catalogue.specs.Contracts.{recordAt, Spanned}
 use borrow.Author.Needs.{needs}
 use Rattle.catalogue.proofs.lookup.own_prn.Statement.{statement}
 use Rattle.catalogue.proofs.lookup.own_prn.Tie as tie

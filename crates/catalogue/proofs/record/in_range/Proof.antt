@@ -1,6 +1,6 @@
 -- By kind, with the fields read from the record.
 use mathlib.Core.Path.{_≡_, sym, ap, _∙_}
-use Rattle.sae.specs.Rows.{prnFits, slotFits}
+use Rattle.catalogue.specs.Rows.{prnFits, slotFits}
 use Rattle.catalogue.proofs.RecordLaws.{range-slot, range-prn, range-layout}
 use borrow.Author.Needs.{needs}
 use Rattle.catalogue.proofs.record.in_range.Statement.{statement}

@@ -1,7 +1,7 @@
 -- By kind, with the fields read from the record.
 use mathlib.Core.Path.{_≡_, sym, _∙_}
-use Rattle.sae.specs.Search.{isFound}
-use Rattle.sae.specs.Sae.{saePrn, saeSlot}
+use Rattle.catalogue.specs.Search.{isFound}
+use Rattle.catalogue.specs.Sae.{saePrn, saeSlot}
 use Rattle.catalogue.proofs.RecordLaws.{sae-slot, sae-prn, sae-layout}
 use borrow.Author.Needs.{needs}
 use Rattle.catalogue.proofs.record.in_sae.Statement.{statement}

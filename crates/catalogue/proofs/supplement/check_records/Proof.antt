@@ -6,9 +6,9 @@ use native.Mathlib.Omega.{arith}
 use lib.ListN.{length, take, drop}
 use lib.Seq.{length-take-le}
 use Rattle.catalogue.specs.Record.{fault}
-use Rattle.catalogue.specs.Supplement.{recordsOf, recordFrom, check}
-use Rattle.catalogue.specs.Filter.{Covers}
-use Rattle.catalogue.proofs.SupplementLaws.{Whole, whole-nil, whole-more, records-nil, records-more, from-length, from-part}
+use Rattle.catalogue.specs.Supplement.{recordsOf, check, Whole}
+use Rattle.catalogue.specs.Contracts.{recordFrom, Covers}
+use Rattle.catalogue.proofs.SupplementLaws.{whole-nil, whole-more, records-nil, records-more, from-length, from-part}
 use Rattle.catalogue.proofs.CheckLaws.{free, from-whole, testFrom, check-start, check-fault, check-next, check-end}
 use Rattle.catalogue.proofs.FilterLaws.{covers-none}
 use Rattle.catalogue.proofs.supplement.check_records.Statement.{statement}

@@ -5,9 +5,10 @@ use mathlib.Core.Option.{some}
 use Prim.Native.Nat.{ℕ, _-_, _≤_}
 use native.Mathlib.Omega.{arith}
 use lib.ListN.{length, take, drop, getD}
-use Rattle.sae.specs.Search.{firstWhere}
+use Rattle.catalogue.specs.Search.{firstWhere}
 use Rattle.catalogue.specs.Record.{recordSize, hasKey}
-use Rattle.catalogue.specs.Supplement.{recordsOf, recordFrom, recordWith}
+use Rattle.catalogue.specs.Supplement.{recordsOf, recordWith}
+use Rattle.catalogue.specs.Contracts.{recordFrom}
 use Rattle.catalogue.proofs.SupplementLaws.{from-length, from-part, search-hit, search-miss, search-end}
 use Rattle.catalogue.proofs.supplement.find_record.Statement.{statement}
 use Rattle.catalogue.proofs.supplement.find_record.Tie as tie

@@ -7,7 +7,7 @@ use lib.ListN.{length, take}
 use lib.Seq.{length-take-le}
 use Rattle.catalogue.specs.Record.{recordSize, kindOf, keySize, keyOf}
 use Rattle.catalogue.specs.Supplement.{recordsOf}
-use Rattle.catalogue.specs.Filter.{Marks}
+use Rattle.catalogue.specs.Contracts.{Marks}
 use Rattle.catalogue.proofs.RecordLaws.{key-within}
 use Rattle.catalogue.proofs.FilterLaws.{covers-more, surely-new}
 use borrow.Author.Needs.{needs}

@@ -4,9 +4,10 @@ use Prim.Native.Nat.{ℕ}
 use native.Mathlib.Omega.{arith}
 use lib.ListN.{take}
 use lib.Seq.{length-take-le}
-use Rattle.sae.specs.Search.{firstWhere, isFound}
+use Rattle.catalogue.specs.Search.{firstWhere, isFound}
 use Rattle.catalogue.specs.Record.{kindOf, keySize, keyOf, hasKey}
-use Rattle.catalogue.specs.Supplement.{recordsOf, recordWith, recordAt}
+use Rattle.catalogue.specs.Supplement.{recordsOf, recordWith}
+use Rattle.catalogue.specs.Contracts.{recordAt}
 use borrow.Author.Needs.{needs}
 use Rattle.catalogue.proofs.supplement.seen_before.Statement.{statement}
 use Rattle.catalogue.proofs.supplement.seen_before.Tie as tie

@@ -3,7 +3,7 @@ use mathlib.Core.Path.{_≡_, sym, ap, _∙_}
 use Prim.Native.Nat.{_+_, _-_, _≤_}
 use native.Mathlib.Omega.{arith}
 use lib.ListN.{length}
-use Rattle.frame.specs.Frame.{refused, accepted}
+use Rattle.frame.specs.Rule.{refused, accepted}
 use Rattle.frame.specs.Header.{headerSize, kindOf, kindNumber}
 use Rattle.frame.specs.Reader.{answerSize, Obeys, sizes}
 use Rattle.frame.proofs.HeaderLaws.{header-range}

@@ -9,10 +9,11 @@ use lib.ListN.{length, drop}
 use Rattle.frame.specs.CheckByte.{isSealed}
 use Rattle.frame.specs.Header.{headerSize, kindOf, isUnassigned, isChecked}
 use Rattle.frame.specs.declared.header.ResponseKind.{ResponseKind}
-use Rattle.frame.specs.Frame.{firstBroken, wrongCount}
+use Rattle.frame.specs.Frame.{wrongCount}
+use Rattle.frame.specs.Rule.{firstBroken}
 use Rattle.frame.specs.Reader.{readRules, readRefusal, answerSize}
 use Rattle.frame.proofs.HeaderLaws.{header-range}
-use Rattle.frame.proofs.FrameLaws.{broken, kept, last-kept}
+use Rattle.frame.proofs.RuleLaws.{broken, kept, last-kept}
 use Rattle.frame.proofs.reader.read_refusal.Statement.{statement}
 use Rattle.frame.proofs.reader.read_refusal.Tie as tie
 

@@ -3,7 +3,8 @@ use mathlib.Core.List.{_++_}
 use native.Mathlib.Omega.{arith}
 use lib.ListN.{length-append}
 use Rattle.frame.proofs.CheckByteLaws.{length-sealed}
-use Rattle.frame.proofs.WriterLaws.{joined, sealed-behind}
+use Rattle.frame.proofs.WriterLaws.{sealed-behind}
+use Rattle.frame.proofs.PlacedLaws.{joined}
 use borrow.Author.Needs.{needs}
 use Rattle.frame.proofs.writer.put_first.Statement.{statement}
 use Rattle.frame.proofs.writer.put_first.Tie as tie

@@ -3,7 +3,8 @@ use mathlib.Core.Path.{_≡_, refl, sym, ap, _∙_}
 use Prim.Native.Nat.{_+_}
 use native.Mathlib.Omega.{arith}
 use lib.ListN.{length}
-use Rattle.frame.specs.Frame.{answered, placed}
+use Rattle.frame.specs.Frame.{answered}
+use Rattle.frame.specs.Bytes.{placed}
 use Rattle.frame.proofs.CheckByteLaws.{length-sealed}
 use Rattle.frame.proofs.WriterLaws.{sealed-behind, answered-checked, answered-plain, answered-longer}
 use borrow.Author.Needs.{needs}

@@ -2,8 +2,8 @@
 use mathlib.Core.Path.{_≡_, ap, _∙_}
 use mathlib.Core.List.{_∷_, []}
 use Prim.Native.Nat.{ℕ}
-use Rattle.frame.specs.Frame.{placed}
-use Rattle.frame.proofs.WriterLaws.{stored}
+use Rattle.frame.specs.Bytes.{placed}
+use Rattle.frame.proofs.PlacedLaws.{stored}
 use borrow.Author.Needs.{needs}
 use Rattle.frame.proofs.writer.seal.Statement.{statement}
 use Rattle.frame.proofs.writer.seal.Tie as tie

@@ -6,10 +6,13 @@ use native.Mathlib.Omega.{arith}
 use lib.ListN.{length, length-append}
 use Rattle.frame.specs.CheckByte.{sealed}
 use Rattle.frame.specs.Header.{kindOf}
-use Rattle.frame.specs.Frame.{refused, accepted, answered, placed}
+use Rattle.frame.specs.Frame.{answered}
+use Rattle.frame.specs.Bytes.{placed}
+use Rattle.frame.specs.Rule.{refused, accepted}
 use Rattle.frame.specs.Writer.{frameOf, writeRefusal, outAfter, runs}
 use Rattle.frame.proofs.CheckByteLaws.{length-sealed}
-use Rattle.frame.proofs.WriterLaws.{writes, write-accepts, write-refuses, joined}
+use Rattle.frame.proofs.WriterLaws.{writes, write-accepts, write-refuses}
+use Rattle.frame.proofs.PlacedLaws.{joined}
 use borrow.Author.Needs.{needs}
 use Rattle.frame.proofs.writer.write_frame.Statement.{statement}
 use Rattle.frame.proofs.writer.write_frame.Tie as tie

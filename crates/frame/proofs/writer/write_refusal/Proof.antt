@@ -5,10 +5,11 @@ use native.Mathlib.Omega.{arith}
 use borrow.Author.Tests.{lt-ltb, le-ltb, eq-eqb, ne-eqb}
 use lib.ListN.{length, drop}
 use Rattle.frame.specs.Header.{kindOf, isUnassigned}
-use Rattle.frame.specs.Frame.{firstBroken, wrongCount}
+use Rattle.frame.specs.Frame.{wrongCount}
+use Rattle.frame.specs.Rule.{firstBroken}
 use Rattle.frame.specs.Writer.{writeRules, writeRefusal}
 use Rattle.frame.proofs.HeaderLaws.{header-range}
-use Rattle.frame.proofs.FrameLaws.{broken, kept, last-kept}
+use Rattle.frame.proofs.RuleLaws.{broken, kept, last-kept}
 use Rattle.frame.proofs.WriterLaws.{over-twelve}
 use borrow.Author.Needs.{needs}
 use Rattle.frame.proofs.writer.write_refusal.Statement.{statement}

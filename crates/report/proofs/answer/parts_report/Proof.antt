@@ -4,11 +4,12 @@ use mathlib.Core.List.{List, [], _∷_, _++_}
 use Prim.Native.Nat.{ℕ, _+_, _≤_}
 use native.Mathlib.Omega.{arith}
 use lib.ListN.{length}
-use Rattle.frame.specs.Frame.{placed}
+use Rattle.frame.specs.Bytes.{placed}
 use Rattle.catalogue.specs.Lookup.{catalogue}
 use Rattle.report.specs.Report.{keyByte, keyTarget, reportOf, linesOf}
 use Rattle.report.specs.Rows.{rowsOf, reportBytes}
-use Rattle.report.specs.Answer.{shownLines, shown}
+use Rattle.report.specs.Answer.{shown}
+use Rattle.report.specs.Contracts.{shownLines}
 use Rattle.report.proofs.AnswerLaws.{rows-told, verdict-length, too-long, fits}
 use borrow.Author.Needs.{needs}
 use Rattle.report.proofs.answer.parts_report.Statement.{statement}

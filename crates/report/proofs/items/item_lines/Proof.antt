@@ -4,7 +4,6 @@ use Prim.Native.Nat.{_≤_, _-_}
 use native.Mathlib.Omega.{arith}
 use lib.ListN.{length}
 use Rattle.catalogue.specs.Lookup.{catalogue}
-use Rattle.report.specs.Rows.{firstLines}
 use Rattle.report.proofs.ItemLaws.{Filled, started, one-more}
 use Rattle.report.proofs.RowsLaws.{first-length}
 use Rattle.report.proofs.TallyLaws.{tally-small}
@@ -15,6 +14,7 @@ use Rattle.report.proofs.items.item_lines.Lts as lts
 use Rattle.report.proofs.items.item_step.Reads as item-step-reads
 use Rattle.report.proofs.tally.no_lines.Reads as no-lines-reads
 use Rattle.report.proofs.tally.tallied.Reads as tallied-reads
+use Rattle.report.specs.Contracts.{firstLines}
 
 abbrev Inv-loop : tie.InvT-loop
 Inv-loop s items lines₀ place₀ tally₀ count prns i₀ lines place tally i = Filled (catalogue s) items prns lines place tally i × (i ≤ count) × (count ≤ 16) × (length prns ≡ 16)

@@ -4,11 +4,12 @@ use mathlib.Core.Option.{some}
 use Prim.Native.Nat.{_≤_, _*_}
 use native.Mathlib.Omega.{arith}
 use lib.ListN.{length}
-use Rattle.sae.specs.Sae.{prnOf}
-use Rattle.sae.proofs.TableLaws.{prn-ranges}
+use Rattle.catalogue.specs.Rows.{prnOf}
+use Rattle.catalogue.proofs.RowLaws.{prn-ranges}
 use Rattle.catalogue.specs.Lookup.{catalogue}
 use Rattle.catalogue.proofs.LookupLaws.{prn-in-range}
-use Rattle.report.specs.Items.{rowLine, rowNext, itemLine, next, Inside}
+use Rattle.report.specs.Items.{rowLine, rowNext, itemLine, next}
+use Rattle.report.specs.Contracts.{Inside}
 use borrow.Author.Needs.{needs}
 use Rattle.report.proofs.items.item_step.Statement.{statement}
 use Rattle.report.proofs.items.item_step.Tie as tie

@@ -4,9 +4,9 @@ use Prim.Native.Nat.{_<_, _^_}
 use native.Mathlib.Omega.{arith}
 use Rattle.report.specs.Bits.{cut}
 use Rattle.report.specs.Scaling.{formLine}
+use Rattle.report.specs.Contracts.{holdsNumber}
 use Rattle.report.proofs.BitsLaws.{cut-lt}
 use Rattle.report.proofs.ItemLaws.{form-high, form-wide, form-holds}
-use Rattle.report.specs.Rows.{holdsNumber}
 use borrow.Author.Needs.{needs}
 use Rattle.report.proofs.items.known_line.Statement.{statement}
 use Rattle.report.proofs.items.known_line.Tie as tie

@@ -1,8 +1,8 @@
 -- Unknown 3 without a SLOT; one that is found has the item's form and width and is in range.
 use mathlib.Core.Path.{_≡_, sym, ap, _∙_}
 use mathlib.Core.Option.{some}
-use Rattle.sae.specs.Sae.{slotOf}
-use Rattle.sae.proofs.TableLaws.{slot-ranges}
+use Rattle.catalogue.specs.Rows.{slotOf}
+use Rattle.catalogue.proofs.RowLaws.{slot-ranges}
 use Rattle.catalogue.specs.Lookup.{catalogue}
 use Rattle.catalogue.proofs.LookupLaws.{slot-in-range, slot-keyed}
 use Rattle.report.specs.Items.{slotLine}

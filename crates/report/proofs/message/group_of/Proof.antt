@@ -8,9 +8,8 @@ use Rattle.catalogue.specs.Lookup.{catalogue}
 use Rattle.report.specs.declared.items.Place.{Place}
 use Rattle.report.specs.declared.items.Place.the-variants.{Bit}
 use Rattle.report.specs.declared.line.Line.the-variants.{Unknown}
-use Rattle.report.specs.Items.{Inside}
 use Rattle.report.specs.Report.{remainderAt}
-use Rattle.report.specs.Rows.{firstLines}
+use Rattle.report.specs.Contracts.{Inside, firstLines}
 use Rattle.report.proofs.ItemLaws.{after-inside, group-lines}
 use Rattle.report.proofs.RowsLaws.{first-length}
 use Rattle.report.proofs.TallyLaws.{one-tallied, tally-small}

@@ -7,9 +7,8 @@ use lib.ListN.{length, length-append, length-drop}
 use borrow.Author.Needs.{needs}
 use Rattle.catalogue.specs.Lookup.{catalogue, layoutOf}
 use Rattle.report.specs.Report.{groupOf, groupLines}
-use Rattle.report.specs.Rows.{firstLines}
 use Rattle.report.specs.declared.line.Line.{Line}
-use Rattle.report.specs.Tally.{Tallies}
+use Rattle.report.specs.Contracts.{firstLines, Tallies}
 use Rattle.report.proofs.ItemLaws.{numbers-snoc, report-lines}
 use Rattle.report.proofs.RowsLaws.{first-length}
 use Rattle.report.proofs.TallyLaws.{one-tallied, tally-small}

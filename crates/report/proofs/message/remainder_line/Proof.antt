@@ -4,8 +4,8 @@ use Prim.Native.Nat.{_≤_, _-_, _*_}
 use native.Mathlib.Omega.{arith}
 use lib.ListN.{length}
 use Rattle.report.specs.declared.line.Line.the-variants.{Left}
-use Rattle.report.specs.Items.{Inside}
 use Rattle.report.specs.Report.{remainderAt}
+use Rattle.report.specs.Contracts.{Inside}
 use borrow.Author.Needs.{needs}
 use Rattle.report.proofs.message.remainder_line.Statement.{statement}
 use Rattle.report.proofs.message.remainder_line.Tie as tie

@@ -5,10 +5,10 @@ use Prim.Native.Nat.{ℕ, _≤_, _+_}
 use native.Mathlib.Omega.{arith}
 use lib.ListN.{length, length-append}
 use borrow.Author.Needs.{needs}
-use Rattle.frame.specs.Frame.{placed}
+use Rattle.frame.specs.Bytes.{placed}
 use Rattle.report.specs.declared.message.Report.{Report}
-use Rattle.report.specs.Rows.{row, rowsOf, holdsNumber, allHold, firstLines}
-use Rattle.report.specs.Answer.{shownLines}
+use Rattle.report.specs.Rows.{row, rowsOf}
+use Rattle.report.specs.Contracts.{holdsNumber, allHold, firstLines, shownLines}
 use Rattle.report.proofs.RowsLaws.{holds-ends, rows-ends, ends-length, Put, room-behind, put-next}
 use Rattle.report.proofs.rows.put_report.Statement.{statement}
 use Rattle.report.proofs.rows.put_report.Tie as tie

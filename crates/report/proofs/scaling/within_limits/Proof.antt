@@ -2,7 +2,7 @@
 use mathlib.Core.Path.{sym, ap, _∙_}
 use Prim.Native.Nat.{ℕ}
 use borrow.Author.Tests.{not-true, not-false}
-use Rattle.sae.specs.Rows.{inOrder}
+use Rattle.catalogue.specs.Rows.{inOrder}
 use Rattle.report.proofs.ScalingLaws.{below-lowest, not-below}
 use borrow.Author.Needs.{needs}
 use Rattle.report.proofs.scaling.within_limits.Statement.{statement}

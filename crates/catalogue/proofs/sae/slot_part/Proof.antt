@@ -1,0 +1,46 @@
+-- Each part rises, and no key of another part lies between its bounds.
+use mathlib.Core.Path.{refl, sym}
+use native.Mathlib.Omega.{arith}
+use Rattle.catalogue.specs.Search.{every, rising}
+use Rattle.catalogue.specs.Sae.{slotKey}
+use Rattle.catalogue.specs.Tables.{slotRows}
+use Rattle.catalogue.specs.Contracts.{rowsFrom}
+use Rattle.catalogue.proofs.SearchLaws.{in-part}
+use Rattle.catalogue.proofs.sae.slot_part.Statement.{statement}
+use Rattle.catalogue.proofs.sae.slot_part.Tie as tie
+
+pub slot-part-spec : {M : Type 1} → statement M
+unfolding slotRows rowsFrom every rising
+slot-part-spec =
+    tie.close
+    (tie.spec
+    (λ c. record { size = refl; rises = refl; same = sym (in-part slotKey slotRows 0 5 0x0000_0000 0x0103_0000 _ refl refl (omega arith) (omega arith)) })
+    (λ c. record { size = refl; rises = refl; same = sym (in-part slotKey slotRows 5 5 0x0103_0001 0x0105_FFFF _ refl refl (omega arith) (omega arith)) })
+    (λ c. record { size = refl; rises = refl; same = sym (in-part slotKey slotRows 10 5 0x0106_0000 0x0108_0000 _ refl refl (omega arith) (omega arith)) })
+    (λ c. record { size = refl; rises = refl; same = sym (in-part slotKey slotRows 15 5 0x0108_0001 0x0108_0005 _ refl refl (omega arith) (omega arith)) })
+    (λ c. record { size = refl; rises = refl; same = sym (in-part slotKey slotRows 20 5 0x0108_0006 0x0108_0019 _ refl refl (omega arith) (omega arith)) })
+    (λ c. record { size = refl; rises = refl; same = sym (in-part slotKey slotRows 25 5 0x0108_001A 0x0108_0032 _ refl refl (omega arith) (omega arith)) })
+    (λ c. record { size = refl; rises = refl; same = sym (in-part slotKey slotRows 30 5 0x0108_0033 0x0108_0048 _ refl refl (omega arith) (omega arith)) })
+    (λ c. record { size = refl; rises = refl; same = sym (in-part slotKey slotRows 35 5 0x0108_0049 0x0108_005A _ refl refl (omega arith) (omega arith)) })
+    (λ c. record { size = refl; rises = refl; same = sym (in-part slotKey slotRows 40 5 0x0108_005B 0x0108_006E _ refl refl (omega arith) (omega arith)) })
+    (λ c. record { size = refl; rises = refl; same = sym (in-part slotKey slotRows 45 5 0x0108_006F 0x0108_0096 _ refl refl (omega arith) (omega arith)) })
+    (λ c. record { size = refl; rises = refl; same = sym (in-part slotKey slotRows 50 5 0x0108_0097 0x0108_00AA _ refl refl (omega arith) (omega arith)) })
+    (λ c. record { size = refl; rises = refl; same = sym (in-part slotKey slotRows 55 5 0x0108_00AB 0x0108_00D2 _ refl refl (omega arith) (omega arith)) })
+    (λ c. record { size = refl; rises = refl; same = sym (in-part slotKey slotRows 60 5 0x0108_00D3 0x0110_0000 _ refl refl (omega arith) (omega arith)) })
+    (λ c. record { size = refl; rises = refl; same = sym (in-part slotKey slotRows 65 5 0x0110_0001 0x0110_000A _ refl refl (omega arith) (omega arith)) })
+    (λ c. record { size = refl; rises = refl; same = sym (in-part slotKey slotRows 70 5 0x0110_000B 0x0117_FFFF _ refl refl (omega arith) (omega arith)) })
+    (λ c. record { size = refl; rises = refl; same = sym (in-part slotKey slotRows 75 5 0x0118_0000 0x011F_FFFF _ refl refl (omega arith) (omega arith)) })
+    (λ c. record { size = refl; rises = refl; same = sym (in-part slotKey slotRows 80 5 0x0120_0000 0x012F_FFFF _ refl refl (omega arith) (omega arith)) })
+    (λ c. record { size = refl; rises = refl; same = sym (in-part slotKey slotRows 85 5 0x0130_0000 0x0208_0032 _ refl refl (omega arith) (omega arith)) })
+    (λ c. record { size = refl; rises = refl; same = sym (in-part slotKey slotRows 90 5 0x0208_0033 0x0304_0000 _ refl refl (omega arith) (omega arith)) })
+    (λ c. record { size = refl; rises = refl; same = sym (in-part slotKey slotRows 95 5 0x0304_0001 0x0308_0002 _ refl refl (omega arith) (omega arith)) })
+    (λ c. record { size = refl; rises = refl; same = sym (in-part slotKey slotRows 100 5 0x0308_0003 0x0308_0009 _ refl refl (omega arith) (omega arith)) })
+    (λ c. record { size = refl; rises = refl; same = sym (in-part slotKey slotRows 105 5 0x0308_000A 0x0318_0000 _ refl refl (omega arith) (omega arith)) })
+    (λ c. record { size = refl; rises = refl; same = sym (in-part slotKey slotRows 110 5 0x0318_0001 0x0408_0003 _ refl refl (omega arith) (omega arith)) })
+    (λ c. record { size = refl; rises = refl; same = sym (in-part slotKey slotRows 115 5 0x0408_0004 0x0410_0000 _ refl refl (omega arith) (omega arith)) })
+    (λ c. record { size = refl; rises = refl; same = sym (in-part slotKey slotRows 120 5 0x0410_0001 0x0508_0000 _ refl refl (omega arith) (omega arith)) })
+    (λ c. record { size = refl; rises = refl; same = sym (in-part slotKey slotRows 125 5 0x0508_0001 0x0530_0000 _ refl refl (omega arith) (omega arith)) })
+    (λ c. record { size = refl; rises = refl; same = sym (in-part slotKey slotRows 130 5 0x0530_0001 0x0610_0000 _ refl refl (omega arith) (omega arith)) })
+    (λ c. record { size = refl; rises = refl; same = sym (in-part slotKey slotRows 135 5 0x0610_0001 0x0624_0000 _ refl refl (omega arith) (omega arith)) })
+    (λ c. record { size = refl; rises = refl; same = sym (in-part slotKey slotRows 140 5 0x0624_0001 0x0638_0000 _ refl refl (omega arith) (omega arith)) })
+    (λ c. record { size = refl; rises = refl; same = sym (in-part slotKey slotRows 141 5 0x0638_0001 0xFFFF_FFFF _ refl refl (omega arith) (omega arith)) }))
