@@ -11,6 +11,7 @@ use lib.Dec.{T, ltb}
 use lib.ListN.{length, take, getD, length-take, List·getD-eq-default}
 use lib.Seq.{getD-take}
 use mir.Facts.{and-yes}
+use Rattle.frame.specs.Bytes.{Bytes}
 
 -- by the two values of a test
 pub cases : {A : Type 0} (t : Bool) → (t ≡ true → A) → (t ≡ false → A) → A
@@ -28,10 +29,6 @@ below f (suc n) t b h =
     ⊎-elim (λ (e : b ≡ n). subst (λ (m : ℕ). T (f m)) (sym e) (and-yes (f n) (all f n) t .0))
     (λ (l : b < n). below f n (and-yes (f n) (all f n) t .1) b l)
     (eq-or-lt-of-le (le-of-suc-le-suc h))
-
--- Each element is a byte.
-abbrev pub Bytes : List ℕ → Type 0
-Bytes s = (i : ℕ) → getD s i 0 < 256
 
 pub bytes-take : (s : List ℕ) (n : ℕ) → Bytes s → Bytes (take n s)
 bytes-take s n b i =

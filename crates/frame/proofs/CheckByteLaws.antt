@@ -13,7 +13,8 @@ use lib.ListN.{length, take, drop, getD, length-append, drop-of-length-le}
 use lib.Seq.{drop-cons, take-at, getD-at, split-at}
 use Rattle.frame.specs.CheckByte.{step, steps, feed, register, checkByte, sealed, isSealed}
 use mir.Facts.{and-yes}
-use Rattle.frame.proofs.ByteLaws.{all, below, cases, Bytes, bytes-take}
+use Rattle.frame.specs.Bytes.{Bytes}
+use Rattle.frame.proofs.ByteLaws.{all, below, cases, bytes-take}
 
 -- One step as the code computes it: the high bit by a mask, the move by a shift.
 coded : ℕ → ℕ

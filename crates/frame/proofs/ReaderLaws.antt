@@ -15,7 +15,7 @@ use Rattle.frame.specs.CheckByte.{isSealed}
 use Rattle.frame.specs.Header.{headerSize, kindOf, kindNumber, isUnassigned, isChecked}
 use Rattle.frame.specs.Frame.{Parts, wrongCount}
 use Rattle.frame.specs.Rule.{Outcome, refused, accepted, outcome, Rule, firstBroken}
-use Rattle.frame.specs.Reader.{answerSize, readRules, readRefusal, partsOf, readFrame, ResponseObeys, Obeys, Sizes, sizes}
+use Rattle.frame.specs.Reader.{answerSize, readRules, readRefusal, partsOf, readFrame, ResponseObeys, Obeys, Sizes, sizes, Handed}
 use Rattle.frame.proofs.ByteLaws.{cases}
 use Rattle.frame.proofs.HeaderLaws.{header-range}
 use Rattle.frame.proofs.RuleLaws.{kept, last-kept, none-broken, unrefused-is, refused-is}
@@ -112,14 +112,6 @@ accepted-sizes first response o =
           response
           (answer-size-le (kindOf first) (length response)),
     )
-
--- The sizes that are handed over lie within the two runs, and these within twelve bytes.
-pub record Handed (first response : List ℕ) (s : Sizes) : Type 0 where
-  pub header : (1 ≤ s .header) × (s .header ≤ 3)
-  pub body : s .header + s .body + 1 ≡ length first
-  pub kind : s .kind ≤ 3
-  pub answer : s .answer ≤ length response
-  pub twelve : length first + length response ≤ 12
 
 kind-le : (kind : ResponseKind) → isUnassigned kind ≡ false → kindNumber kind ≤ 3
 kind-le Empty e = omega arith

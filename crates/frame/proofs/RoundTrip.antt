@@ -147,7 +147,7 @@ module _ (h d a : List ℕ) (size : length h ≡ headerSize h) where
   unfolding readRefusal
   both-refuse room over = (ap firstBroken agree ∙ broken _ _ (lt-ltb 12 (frameSize (frameOf h d a)) over), λ e. omega (arith, writes h d a room e .twelve))
 
--- "Written frames read back to the same parts."
+-- "written frames read back to the same parts"
 pub read-back :
     (h d a : List ℕ) (room : ℕ) (f : Frame)
     → writeFrame h d a room ≡ accepted f
@@ -225,7 +225,7 @@ module _ (first response : List ℕ) (o : Obeys first response) where
       } in
       write-accepts header body answer room (writer.unrefused header body answer room w) ∙ ap accepted frame-again
 
--- "Accepted frames written again give the same bytes", wherever these fit the lent room.
+-- "accepted frames written again give the same bytes", wherever these fit the lent room.
 pub written-again :
     (first response : List ℕ) (p : Parts) (room : ℕ)
     → readFrame first response ≡ accepted p

@@ -75,3 +75,11 @@ sizes (accepted p) =
 abbrev pub readingOf : Reading → Outcome Sizes
 readingOf (Refused n) = refused n
 readingOf (Accepted h d k a) = accepted (record { header = h; body = d; kind = k; answer = a })
+
+-- The sizes that are handed over lie within the two runs, and these within twelve bytes.
+pub record Handed (first response : List ℕ) (s : Sizes) : Type 0 where
+  pub header : (1 ≤ s .header) × (s .header ≤ 3)
+  pub body : s .header + s .body + 1 ≡ length first
+  pub kind : s .kind ≤ 3
+  pub answer : s .answer ≤ length response
+  pub twelve : length first + length response ≤ 12

@@ -58,7 +58,7 @@ pub record Keeps (m : Message) (s t : List ℕ) : Type 0 where
       → (lineAt (under s m) (item g i) ≡ none) ↔ (layoutSought (catalogue s) m ≡ none)
   -- and no verdict becomes Clear."
   pub not-clear : (verdict (under t m) ≡ 1 → ⊥) → verdict (under s m) ≡ 1 → ⊥
-  -- "two lines are the same if their rows are equal byte for byte": so are those of what the first shows
+  -- "two lines are the same if their rows below are equal byte for byte": so are those of what the first shows
   pub rows :
       (n : Name) (l k : Line)
       → lineAt (under s m) n ≡ some l

@@ -7,8 +7,8 @@ use native.Mathlib.Nat.{add-sub-cancel-left}
 use lib.ListN.{length, take, drop, length-take, length-drop}
 use lib.Seq.{length-take-le}
 use Rattle.frame.specs.Rule.{refused, accepted}
-use Rattle.frame.specs.Reader.{readFrame, Sizes, sizes, readingOf}
-use Rattle.frame.proofs.ReaderLaws.{Handed, handed, CutOut, cut-out, refusal-handed}
+use Rattle.frame.specs.Reader.{readFrame, Sizes, sizes, readingOf, Handed}
+use Rattle.frame.proofs.ReaderLaws.{handed, CutOut, cut-out, refusal-handed}
 use Rattle.catalogue.specs.Supplement.{Accepted}
 use Rattle.catalogue.specs.Lookup.{catalogue}
 use Rattle.report.specs.Report.{Message, keyByte, keyTarget, messageOf, reportOf}
