@@ -21,6 +21,15 @@ struct sae_state {
     const char *text;
 };
 
+/* Codes low to high of SLOT SED-width-number that lie within its limits and for
+ * which document 003 prints no state. */
+struct sae_gap {
+    uint8_t width;
+    uint16_t number;
+    uint32_t low, high;
+    const char *called; /* what document 003 calls them; empty if it prints no row */
+};
+
 /* Items first to last of SLOT BMP-width-number; item 1 is the most significant
  * bit. What a 0 and a 1 mean is empty if it is not printed. */
 struct sae_item {
@@ -30,11 +39,13 @@ struct sae_item {
     const char *name, *zero, *one;
 };
 
-/* PRNs rise; states and items stand in order within a SLOT. */
+/* PRNs rise; states, gaps and items stand in order within a SLOT. */
 extern const struct sae_prn sae_prns[];
 extern const size_t sae_prns_count;
 extern const struct sae_state sae_states[];
 extern const size_t sae_states_count;
+extern const struct sae_gap sae_gaps[];
+extern const size_t sae_gaps_count;
 extern const struct sae_item sae_items[];
 extern const size_t sae_items_count;
 

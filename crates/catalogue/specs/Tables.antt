@@ -418,10 +418,13 @@ slotRows =
     ∷ slot SED 2 3 1 1 0 0 2
     ∷ slot SED 4 1 1 1 0 0 7
     ∷ slot SED 4 2 1 1 0 0 12
+    ∷ slot SED 6 1 1 1 0 0 32
     ∷ slot SED 6 2 1 1 0 0 37
     ∷ slot SED 8 1 1 1 0 1 6
     ∷ slot SED 8 2 1 1 0 0 7
     ∷ slot SED 8 3 1 1 0 1 31
+    ∷ slot SED 8 4 1 1 0 0 128
+    ∷ slot SED 8 5 1 1 0 1 16
     ∷ slot SED 8 6 1 1 0 1 4
     ∷ slot SED 8 7 1 1 0 0 2
     ∷ slot SED 8 8 1 1 0 0 2
