@@ -22,6 +22,11 @@ static const struct help helps[] = {
      "and the texts of states and bits are document 003's (SAE J2178-2): they are\n"
      "shown, not proved. A PRN of the supplement has none.\n"
      "\n"
+     "A few SLOTs have codes between two states for which document 003 prints no\n"
+     "state: it calls them Invalid or Reserved. They lie within the SLOT's limits, so\n"
+     "they are shown as states and the frame can be Clear; beside the code stands\n"
+     "that document 003 prints no state for it. Read no meaning into such a code.\n"
+     "\n"
      "LOG is text, one frame a line. A file is read to its end first, and nothing is\n"
      "shown if a line is bad; - is the standard input, shown line by line as it\n"
      "comes.\n"
@@ -52,10 +57,12 @@ static const struct help helps[] = {
      "            \"answer\" and \"verdict\". A row has its \"kind\" and \"word\" and, as\n"
      "            \"row\", its bytes. A Number has \"value\", the shortest decimal, and\n"
      "            \"double\", its 64 bits; other rows have \"code\" or \"number\", and\n"
-     "            what is known of it in \"text\" or \"reason\". An item has \"prn\",\n"
-     "            \"table\", \"name\", \"slot\" and \"unit\", null where there is none. A\n"
-     "            frame that the adapter marks has the refusal null. What is passed\n"
-     "            over is said on the error output.\n"},
+     "            what is known of it in \"text\" or \"reason\". A State for whose code\n"
+     "            document 003 prints none has \"no_state\" true and, as \"called\",\n"
+     "            what it calls the code, null if it has no row for it. An item has\n"
+     "            \"prn\", \"table\", \"name\", \"slot\" and \"unit\", null where there is\n"
+     "            none. A frame that the adapter marks has the refusal null. What is\n"
+     "            passed over is said on the error output.\n"},
     {"check", "SUPPLEMENT",
      "test a supplement and say what it holds",
      "Says whether the library accepts the file, and how many bytes, SLOTs by form,\n"

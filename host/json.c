@@ -87,13 +87,25 @@ static void put_bit_names(const struct row *row, const struct label *label)
     putchar(']');
 }
 
+/* The text of a State; where document 003 prints no state, what it calls the code. */
+static void put_state(const struct row *row, const struct label *label)
+{
+    const char *text = label ? state_text(label->slot, (uint32_t)row->body) : NULL;
+    const struct sae_gap *gap = label ? state_gap(label->slot, (uint32_t)row->body) : NULL;
+    put_text("text", text);
+    if (gap) {
+        fputs(",\"no_state\":true", stdout);
+        put_text("called", *gap->called ? gap->called : NULL);
+    }
+}
+
 /* What a row of State, Bits, Text, Digits or Invalid says. */
 static void put_code(const struct row *row, const struct label *label)
 {
     char text[VALUE_SIZE];
     put_count("code", row->body);
     if (row->kind == RAKHUBOLE_ROW_STATE)
-        put_text("text", label ? state_text(label->slot, (uint32_t)row->body) : NULL);
+        put_state(row, label);
     if (row->kind == RAKHUBOLE_ROW_BITS && label)
         put_bit_names(row, label);
     if (row->kind == RAKHUBOLE_ROW_TEXT) {

@@ -63,6 +63,17 @@ const char *state_text(struct slot_key slot, uint32_t code)
     return NULL;
 }
 
+const struct sae_gap *state_gap(struct slot_key slot, uint32_t code)
+{
+    for (size_t i = 0; slot.form == FORM_SED && i < sae_gaps_count; i++) {
+        const struct sae_gap *gap = &sae_gaps[i];
+        if (gap->width == slot.width && gap->number == slot.number && gap->low <= code &&
+            code <= gap->high)
+            return gap;
+    }
+    return NULL;
+}
+
 const struct sae_item *slot_items(struct slot_key slot, size_t *count)
 {
     const struct sae_item *items = sae_items, *end = sae_items + sae_items_count;

@@ -33,6 +33,10 @@ struct label label_of(const struct supplement *supplement, uint16_t prn);
 /* The text of a state of a SLOT, or NULL. */
 const char *state_text(struct slot_key slot, uint32_t code);
 
+/* The codes between two states of a SLOT that hold this one, if document 003
+ * prints no state for it; or NULL. */
+const struct sae_gap *state_gap(struct slot_key slot, uint32_t code);
+
 /* The items of a SLOT, the most significant first, and their number. */
 const struct sae_item *slot_items(struct slot_key slot, size_t *count);
 

@@ -42,10 +42,16 @@ static const char *name_of(const struct label *label, char made[MADE_NAME_SIZE])
     return made;
 }
 
+/* A code with the text of its state, or with word that document 003 has none. */
 static void put_state(const struct row *row, const struct label *label, const char *code)
 {
     const char *text = label ? state_text(label->slot, (uint32_t)row->body) : NULL;
+    const struct sae_gap *gap = label ? state_gap(label->slot, (uint32_t)row->body) : NULL;
     printf("state %sh%s%s", code, text ? ": " : "", text ? text : "");
+    if (gap)
+        fputs(": document 003 prints no state for this code", stdout);
+    if (gap && *gap->called)
+        printf(" (called %s)", gap->called);
 }
 
 /* What an item line says, without its unit. */

@@ -4,7 +4,8 @@
     properties.py TOOL SAMPLES
 
 Random supplements come back from their text byte for byte; the samples show every kind of line;
-JSON loses nothing, and its numbers are as short as can be; a stream is shown as it comes, with
+JSON loses nothing, and its numbers are as short as can be; each code of a SLOT with codes between
+its states is a printed state, marked as none, or Unknown; a stream is shown as it comes, with
 progress where somebody looks.
 """
 import json
@@ -28,6 +29,11 @@ REFUSALS = set(range(1, 7))
 UNKNOWNS = set(range(1, 9))
 ROW_KINDS = set(range(1, 12))
 VERDICTS = {1, 2, 3}
+# PRNs whose SLOTs have codes between two states: the width, and the states that are printed.
+STATES = {"1808": (6, {0, 1, 2, 4, 8, 0x10, 0x20}),
+          "1810": (6, {0, 1, 0x10, *range(0x20, 0x26)}),
+          "1806": (8, {0, 1, 2, 4, 8, 0x10, 0x20, 0x40, 0x80}),
+          "1047": (8, {1, 2, 4, 8, 0x10})}
 FRAME = b"48 6B 10 41 65 80 29\n"
 PAUSE = 0.5
 STEPS = rb"(\r\x1b\[Kline \d+)+\r\x1b\[K"
@@ -164,6 +170,36 @@ def test_numbers(tool, _samples):
             yield f"a Number is not the shortest decimal of its double {wanted!r}: {row}"
 
 
+def state_of(row):
+    """What the tool says of a code: a text, that there is no state, or that it is Unknown."""
+    if row["kind"] == 8:
+        return "Unknown" if row["number"] == 5 else None
+    if row.get("no_state"):
+        return "no state" if row["text"] is None and row["called"] else None
+    return "state" if row["text"] and "called" not in row else None
+
+
+def test_states(tool, _samples):
+    """Every code of a SLOT is a printed state, lies between two of them, or is Unknown."""
+    with tempfile.TemporaryDirectory() as name:
+        text, supplement, log = (pathlib.Path(name) / n for n in ("text", "supplement", "log"))
+        for prn, (width, states) in STATES.items():
+            before = "" if width == 8 else "1807 "
+            text.write_text(f"layout header 08 6B selector 41 prns {before}{prn}\n",
+                            encoding="ascii")
+            subprocess.run([tool, "compile", text, supplement], stdout=subprocess.DEVNULL,
+                           check=True)
+            with open(log, "wb") as file:
+                for code in range(1 << width):
+                    subprocess.run([tool, "send", "486B10", f"41{code:02X}"], stdout=file,
+                                   check=True)
+            for code, report in enumerate(objects(tool, supplement, log)):
+                row, inside = report["items"][-1], min(states) <= code <= max(states)
+                wanted = "state" if code in states else "no state" if inside else "Unknown"
+                if state_of(row) != wanted:
+                    yield f"code {code:02X} of PRN {prn} is not shown as {wanted}: {row}"
+
+
 def test_stream(tool, samples):
     """Each frame is shown before the next one comes."""
     process = subprocess.Popen([tool, "report", samples / "van.sup", "-"], stdin=subprocess.PIPE,
@@ -217,7 +253,8 @@ def test_progress(tool, samples):
             yield f"on a terminal stands {shown!r}, not {wanted!r}"
 
 
-TESTS = (test_round_trips, test_samples, test_json, test_numbers, test_stream, test_progress)
+TESTS = (test_round_trips, test_samples, test_json, test_numbers, test_states, test_stream,
+         test_progress)
 
 
 def main():
@@ -225,8 +262,9 @@ def main():
     faults = [fault for test in TESTS for fault in test(tool, samples)]
     for fault in faults:
         print(f"tool-test: {fault}")
-    print(f"tool-test: {SUPPLEMENTS} random supplements, {2 * NUMBERS} Numbers, every kind of "
-          f"line, JSON, a stream and progress: {len(faults)} faults")
+    print(f"tool-test: {SUPPLEMENTS} random supplements, {2 * NUMBERS} Numbers, every code of "
+          f"{len(STATES)} SLOTs, every kind of line, JSON, a stream and progress: "
+          f"{len(faults)} faults")
     return 1 if faults else 0
 
 
