@@ -135,7 +135,8 @@ void put_overview(FILE *file)
     for (size_t i = 0; i < HELPS; i++)
         fprintf(file, "  rakhubole %s %s\n      %s\n", helps[i].command, helps[i].operands,
                 helps[i].summary);
-    fputs("  rakhubole help [COMMAND]\n      say more\n\n"
+    fputs("  rakhubole help [COMMAND]\n      say more\n"
+          "  rakhubole --version\n      say the version of the library's interface\n\n"
           "Exit status: 0; 1 if what was given is refused, or with --strict if a frame is\n"
           "not Clear; 2 for wrong arguments and for files that cannot be read or written.\n",
           file);

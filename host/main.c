@@ -3,6 +3,7 @@
 #include "commands.h"
 #include "help.h"
 #include "message.h"
+#include "rakhubole.h"
 
 #include <string.h>
 
@@ -69,6 +70,16 @@ static int run_help(int count, char **values)
     return flush_output();
 }
 
+static int run_version(int count, char **values)
+{
+    if (count > 0) {
+        complain("too much is given: %s; use: rakhubole --version", values[0]);
+        return STATUS_USAGE;
+    }
+    puts("rakhubole " RAKHUBOLE_VERSION);
+    return flush_output();
+}
+
 int main(int count, char **values)
 {
     if (count < 2) {
@@ -78,6 +89,8 @@ int main(int count, char **values)
     const char *name = values[1];
     if (strcmp(name, "help") == 0 || strcmp(name, "--help") == 0 || strcmp(name, "-h") == 0)
         return run_help(count - 2, values + 2);
+    if (strcmp(name, "--version") == 0)
+        return run_version(count - 2, values + 2);
     const struct command *command = find_command(name);
     return command ? run_command(command, count - 2, values + 2) : complain_of_command(name);
 }

@@ -23,6 +23,10 @@
 extern "C" {
 #endif
 
+/* The version of this interface: its calls, answers, refusals and rows. The
+ * first number changes where a caller has to change. */
+#define RAKHUBOLE_VERSION "1.0"
+
 /* The refusal in an answer, 0 for none. */
 #define RAKHUBOLE_REFUSAL(answer) ((unsigned)((answer) & 0xFF))
 
