@@ -1,4 +1,5 @@
 # The library, the host tool, their checks and a demonstration. Everything that is made stands in build/ and target/.
+# `make help` prints what stands behind ## at each target.
 
 ARCHIVE := build/librakhubole.a
 PEER := build/peer/release
@@ -17,12 +18,14 @@ TOOL_SOURCES := $(wildcard host/*.c)
 TOOL_HEADERS := $(wildcard host/*.h) include/rakhubole.h
 TOOL_CFLAGS := $(CFLAGS) -D_XOPEN_SOURCE=700
 
-.PHONY: all archive demo test checks tables tables-check peer peer-tests vectors random tool-test clean
+.PHONY: all help archive demo test checks tables tables-check peer peer-tests vectors random tool-test clean
 
-all: $(TOOL)
+all: $(TOOL) ## prove the library and build the host tool, build/rakhubole
 
-# What a C program links, with include/rakhubole.h.
-archive:
+help: ## list what make can run
+	@awk -F ':.*## ' '/^[a-z-]+:.*## / { printf "%-12s  %s\n", $$1, $$2 }' $(MAKEFILE_LIST)
+
+archive: ## prove the library and write what a C program links, build/librakhubole.a
 	@mkdir -p build
 	rt staticlib c_api
 	cp target/staticlib/libc_api.a $(ARCHIVE)
@@ -31,39 +34,34 @@ archive:
 $(TOOL): archive $(TOOL_SOURCES) $(TOOL_HEADERS)
 	$(CC) $(TOOL_CFLAGS) $(TOOL_SOURCES) $(ARCHIVE) -o $@
 
-# The tool on the samples.
-demo: $(TOOL)
+demo: $(TOOL) ## run the host tool on the samples
 	$(TOOL) check samples/van.sup
 	$(TOOL) show samples/van.sup
 	$(TOOL) report samples/van.sup samples/van.log
 	$(TOOL) frame $$($(TOOL) send 631AF1 - 1234)
 
-# Everything: the checks below, then the proofs, the must-fail edits and the programs, from nothing.
-test:
+test: ## run everything: the checks, then the proofs, the must-fail edits and the programs, from nothing
 	bash .ci/run
 
-checks: tables-check peer-tests vectors random tool-test
+checks: tables-check peer-tests vectors random tool-test ## run all checks that stand beside the proofs
 
-# The SAE tables of the code, of the definitions and of docs/SAE-TABLES.md, from document 003.
-tables:
+tables: ## write the SAE tables of code, definitions, documentation and host tool from document 003
 	tools/sae_tables.py $(SOURCE)
 
-tables-check:
+tables-check: ## test the transcription and compare the committed tables with document 003
 	@if [ -f $(SOURCE) ]; then \
 		tools/sae_tables.py $(SOURCE) --test && tools/sae_tables.py $(SOURCE) --check; \
 	else \
 		echo "tables-check: $(SOURCE) is not at hand; the tables stand as committed"; \
 	fi
 
-# The independent second program.
-peer: archive
+peer: archive ## build the independent second program
 	cd peer && $(CARGO) build --offline --release --bins --features report
 
-peer-tests:
+peer-tests: ## run the second program's own tests
 	cd peer && $(CARGO) test --offline --release --lib
 
-# The vector files that are committed are those that the second program writes.
-vectors: peer
+vectors: peer ## compare the committed vector files with those that the second program writes
 	rm -rf build/vectors
 	$(PEER)/vectors frame build/vectors/frame_vectors
 	$(PEER)/vectors supplement build/vectors/supplement_vectors
@@ -72,8 +70,7 @@ vectors: peer
 	$(PEER)/vectors bench build/vectors/bench_cases
 	for f in $$(cd build/vectors && find . -type f); do cmp build/vectors/$$f crates/$$f || exit 1; done
 
-# Random cases through the archive, judged by the second program.
-random: peer
+random: peer ## run random cases through the archive, judged by the second program
 	$(PEER)/compare frame $(RANDOM_FRAMES) $(SEED)
 	$(PEER)/compare supplement $(RANDOM_SUPPLEMENTS) $(SEED)
 	$(PEER)/compare report $(RANDOM_REPORTS) $(SEED)
@@ -84,11 +81,11 @@ $(TOOL)-odd: host/tests/odd_library.c $(TOOL_SOURCES) $(TOOL_HEADERS)
 	@mkdir -p build
 	$(CC) $(TOOL_CFLAGS) $(TOOL_SOURCES) host/tests/odd_library.c -o $@
 
-tool-test: $(TOOL) $(TOOL)-odd
+tool-test: $(TOOL) $(TOOL)-odd ## test the host tool
 	host/tests/run.py $(TOOL) samples host/tests/*.cases
 	host/tests/properties.py $(TOOL) samples
 
-clean:
+clean: ## remove everything that was made
 	rm -rf build target
 
 include bench/bench.mk

@@ -26,7 +26,7 @@ $(BENCH)/%.o: bench/%.c $(wildcard bench/*.h) include/rakhubole.h $(BENCH)/sae_r
 $(BENCH)/bench: $(BENCH_OBJECTS) archive
 	$(CC) $(BENCH_OBJECTS) $(ARCHIVE) -Wl,-z,now -o $@
 
-bench: $(BENCH)/bench
+bench: $(BENCH)/bench ## print time, stack and size of the library beside those of a decoder in C
 	@sed -n 's/^model name[^:]*: /machine: /p' /proc/cpuinfo | head -n 1
 	@$(BENCH)/bench times crates
 	@bench/instructions.sh $(BENCH)/bench
@@ -37,6 +37,5 @@ bench: $(BENCH)/bench
 
 checks: bench-test
 
-# Both decoders answer the same.
-bench-test: $(BENCH)/bench
+bench-test: $(BENCH)/bench ## compare the answers of the library with those of the decoder in C
 	$(BENCH)/bench compare crates

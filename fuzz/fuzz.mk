@@ -17,8 +17,7 @@ FUZZ_LIBRARIES := bench/archive.c $(ARCHIVE) $(JUDGE_LIBRARIES)
 
 $(JUDGE): judge
 
-# The second program as a static library with the calls of rakhubole.h.
-judge:
+judge: ## build the second program as a static library with the calls of rakhubole.h
 	cd fuzz/judge && CARGO_TARGET_DIR=$(CURDIR)/build/judge cargo build --offline --release
 
 $(FUZZ)/%-replay: fuzz/%.c fuzz/replay.c $(FUZZ_NEEDS)
@@ -31,15 +30,14 @@ $(FUZZ)/%-fuzz: fuzz/%.c fuzz/fuzzer_counts.c $(FUZZ_NEEDS)
 
 checks: fuzz-replay fuzz-faults
 
-fuzz-replay: $(FUZZ_CALLS:%=$(FUZZ)/%-replay)
+fuzz-replay: $(FUZZ_CALLS:%=$(FUZZ)/%-replay) ## run the committed fuzz inputs through every call
 	for call in $(FUZZ_CALLS); do $(FUZZ)/$$call-replay fuzz/corpus/$$call || exit 1; done
 
-# The replay fails for each of these faults in a call, and for none of them passes.
 $(FUZZ)/faulty-replay: fuzz/faulty.c fuzz/report.c fuzz/replay.c $(FUZZ_NEEDS)
 	@mkdir -p $(FUZZ)
 	$(CC) $(FUZZ_CFLAGS) -fsanitize=address,undefined fuzz/faulty.c fuzz/report.c fuzz/replay.c $(FUZZ_SOURCES) $(JUDGE_LIBRARIES) -o $@
 
-fuzz-faults: $(FUZZ)/faulty-replay
+fuzz-faults: $(FUZZ)/faulty-replay ## see that the replay finds each of eight faults put in on purpose
 	FAULT=0 $< fuzz/corpus/report > $(FUZZ)/fault-0.log
 	for fault in 1 2 3 4 5 6 7 8; do \
 		if FAULT=$$fault $< fuzz/corpus/report > $(FUZZ)/fault-$$fault.log 2>&1; then \
@@ -48,7 +46,7 @@ fuzz-faults: $(FUZZ)/faulty-replay
 	done
 
 # New inputs stay in build/; one that fails is named there too.
-fuzz: $(FUZZ_CALLS:%=$(FUZZ)/%-fuzz)
+fuzz: $(FUZZ_CALLS:%=$(FUZZ)/%-fuzz) ## fuzz every call with libFuzzer, SECONDS=60 each (needs clang)
 	for call in $(FUZZ_CALLS); do \
 		mkdir -p $(FUZZ)/corpus/$$call; \
 		$(FUZZ)/$$call-fuzz -max_total_time=$(SECONDS) -max_len=1024 -print_final_stats=1 -verbosity=0 \
@@ -56,7 +54,7 @@ fuzz: $(FUZZ_CALLS:%=$(FUZZ)/%-fuzz)
 	done
 
 # The inputs of build/ and of the vectors, of which as few are kept as reach all that was reached.
-fuzz-corpus: $(FUZZ_CALLS:%=$(FUZZ)/%-fuzz)
+fuzz-corpus: $(FUZZ_CALLS:%=$(FUZZ)/%-fuzz) ## make the committed fuzz inputs anew (needs clang)
 	rm -rf $(FUZZ)/seeds $(FUZZ)/merged
 	fuzz/seeds.py crates $(FUZZ)/seeds
 	for call in $(FUZZ_CALLS); do \
@@ -67,12 +65,11 @@ fuzz-corpus: $(FUZZ_CALLS:%=$(FUZZ)/%-fuzz)
 		cp -r $(FUZZ)/merged/$$call fuzz/corpus/$$call; \
 	done
 
-# Every bit of a sample of accepted frames flipped, judged by the second program.
 $(FUZZ)/bit_errors: fuzz/bit_errors.c $(FUZZ_NEEDS)
 	@mkdir -p $(FUZZ)
 	$(CC) $(BENCH_CFLAGS) -Ifuzz $< fuzz/judge.c bench/calls.c $(DECODER_SOURCES) $(FUZZ_LIBRARIES) -o $@
 
 checks: bit-errors
 
-bit-errors: $(FUZZ)/bit_errors
+bit-errors: $(FUZZ)/bit_errors ## flip every bit of accepted frames, judged by the second program
 	$(FUZZ)/bit_errors
