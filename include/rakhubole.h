@@ -137,7 +137,8 @@ uint64_t rakhubole_j1850_report(const uint8_t *supplement, size_t supplement_len
 enum {
     /* an item's number: 8 bytes, the bits of a double */
     RAKHUBOLE_ROW_NUMBER = 1,
-    /* an item's code: 4 bytes */
+    /* an item's code: 4 bytes. A State's lies within the limits of its SLOT;
+     * for some such codes SAE prints no state (docs/SAE-TABLES.md). */
     RAKHUBOLE_ROW_STATE = 2,
     RAKHUBOLE_ROW_BITS = 3,
     RAKHUBOLE_ROW_TEXT = 4,
@@ -166,7 +167,7 @@ enum {
     RAKHUBOLE_UNKNOWN_SLOT = 3,
     /* form BMM, SFP or PKT, or a width that ASC or BCD cannot have */
     RAKHUBOLE_UNKNOWN_FORM = 4,
-    /* a state outside the SLOT's limits */
+    /* a code outside the limits of its SED SLOT */
     RAKHUBOLE_UNKNOWN_STATE = 5,
     /* an item of more than 32 bits */
     RAKHUBOLE_UNKNOWN_WIDTH = 6,
