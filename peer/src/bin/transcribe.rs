@@ -27,6 +27,9 @@ fn main() -> ExitCode {
     for row in &reading.left_out {
         println!("left out: {row}");
     }
+    for codes in &reading.without_state {
+        println!("no state: {codes}");
+    }
     for difference in &differences {
         println!("{difference}");
     }

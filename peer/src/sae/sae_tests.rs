@@ -74,7 +74,8 @@ fn counts() {
     assert_eq!(PRNS.len(), 308);
     let of_form = |form: u8| SLOTS.iter().filter(|slot| slot.form == form).count();
     let counts: Vec<usize> = (UNM..=PKT).map(of_form).collect();
-    assert_eq!(counts, [87, 5, 19, 14, 7, 14, 0, 0, 0]);
+    assert_eq!(SLOTS.len(), 149);
+    assert_eq!(counts, [87, 5, 22, 14, 7, 14, 0, 0, 0]);
 }
 
 #[test]
@@ -99,8 +100,11 @@ fn limits_of_other_forms() {
     };
     assert_eq!(limits(SNM, 8, 21), (0xFFFF_FF80, 0x7F));
     assert_eq!(limits(SED, 2, 3), (0, 2));
-    assert_eq!(limits(SED, 8, 1), (1, 6));
+    assert_eq!(limits(SED, 6, 1), (0, 0x20));
     assert_eq!(limits(SED, 6, 2), (0, 0x25));
+    assert_eq!(limits(SED, 8, 1), (1, 6));
+    assert_eq!(limits(SED, 8, 4), (0, 0x80));
+    assert_eq!(limits(SED, 8, 5), (1, 0x10));
     assert_eq!(limits(BMP, 1, 1), (0, 1));
     assert_eq!(limits(BMP, 32, 3), (0, 0xFFFF_FFFF));
     assert_eq!(limits(ASC, 24, 1), (0, 0xFF_FFFF));
@@ -114,7 +118,8 @@ fn keys_are_found() {
     assert!(!has_prn(0x100C) && !has_prn(0x001C) && !has_prn(0x380D) && !has_prn(0xFFFF));
     assert!(has_slot((UNM, 1, 0)) && has_slot((BCD, 56, 1)) && has_slot((UNM, 8, 101)));
     assert!(!has_slot((UNM, 8, 103)) && !has_slot((PKT, 8, 1)) && !has_slot((SFP, 32, 1)));
-    assert!(!has_slot((SED, 6, 1)) && !has_slot((SED, 8, 4)) && !has_slot((SED, 8, 5)));
+    assert!(has_slot((SED, 6, 1)) && has_slot((SED, 8, 4)) && has_slot((SED, 8, 5)));
+    assert!(!has_slot((ASC, 8, 11)) && !has_slot((UNM, 32, 31)) && !has_slot((SED, 8, 13)));
 }
 
 #[test]
@@ -126,5 +131,5 @@ fn every_row_is_found_by_its_key() {
         assert_eq!(slot_row(row.key()), Some(*row));
     }
     assert_eq!(prn_row(0x100C), None);
-    assert_eq!(slot_row((SED, 8, 4)), None);
+    assert_eq!(slot_row((ASC, 8, 11)), None);
 }

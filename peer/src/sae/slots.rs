@@ -99,17 +99,20 @@ pub const SLOTS: &[Slot] = &[
     snm(8, 41, (4, 1, 0), (-128, 127)),
     snm(8, 51, (3, 2, 0), (-128, 127)),
     snm(8, 61, (6, 1, 0), (-128, 127)),
-    // Section 9.6.1: state encoded; left out are those with invalid codes
-    // among their states: 06-1, 08-4 and 08-5.
+    // Section 9.6.1: state encoded. 06-1, 06-2, 08-4 and 08-5 have codes
+    // between their states that are none; these are inside the limits.
     sed(2, 1, (0, 3)),
     sed(2, 2, (0, 3)),
     sed(2, 3, (0, 2)),
     sed(4, 1, (0, 7)),
     sed(4, 2, (0, 0x0C)),
+    sed(6, 1, (0, 0x20)),
     sed(6, 2, (0, 0x25)),
     sed(8, 1, (1, 6)),
     sed(8, 2, (0, 7)),
     sed(8, 3, (1, 0x1F)),
+    sed(8, 4, (0, 0x80)),
+    sed(8, 5, (1, 0x10)),
     sed(8, 6, (1, 4)),
     sed(8, 7, (0, 2)),
     sed(8, 8, (0, 2)),

@@ -17,6 +17,8 @@ pub struct Reading {
     pub reserved: Vec<String>,
     pub twice: Vec<String>,
     pub left_out: Vec<String>,
+    /// Codes inside the limits of a SED SLOT for which no state is printed.
+    pub without_state: Vec<String>,
 }
 
 /// PRNs in rising order, SLOTs in rising order of form, width and number.
@@ -33,6 +35,7 @@ pub fn read(text: &str) -> Reading {
             None => reading.left_out.push(name),
         }
     }
+    reading.without_state = codes::between_states(text);
     reading.keep_first_rows();
     reading.prns.sort_by_key(|row| row.prn);
     reading.slots.sort_by_key(Slot::key);

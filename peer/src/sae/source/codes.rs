@@ -13,7 +13,7 @@ pub fn slots(text: &str) -> Vec<(String, Option<Slot>)> {
         let (name, _) = first_words(line);
         let limits = match slot_reference(name) {
             Some((BMP | ASC | BCD, width, _)) => Some((0, all_ones(width))),
-            Some((SED, _, _)) => states(&lines[place + 1..]),
+            Some((SED, _, _)) => Printed::of(&lines[place + 1..]).limits(),
             _ => continue,
         };
         let slot = slot_reference(name)
@@ -37,53 +37,92 @@ fn unscaled(key: (u8, u8, u16), limits: (u32, u32)) -> Slot {
     }
 }
 
-/// The limits of the states in the lines up to the next SLOT or section.
-fn states(lines: &[&str]) -> Option<(u32, u32)> {
-    let mut printed = Printed::default();
-    for line in lines {
-        let (first, label) = first_words(line);
-        if slot_reference(first).is_some() || line.starts_with("- 9.") {
-            break;
+/// The codes between two states of a SED SLOT that are none themselves, with
+/// what the text calls them.
+pub fn between_states(text: &str) -> Vec<String> {
+    let mut list = Vec::new();
+    let lines: Vec<&str> = text.lines().collect();
+    for (place, line) in lines.iter().enumerate() {
+        let (name, _) = first_words(line);
+        if matches!(slot_reference(name), Some((SED, _, _))) {
+            let printed = Printed::of(&lines[place + 1..]);
+            let runs = printed.between_states();
+            let shown = |run: &(Codes, &str)| format!("{name} {} {}", digits(&run.0), run.1);
+            list.extend(runs.iter().map(shown));
         }
-        printed.take(first, &label);
     }
-    printed.limits()
+    list
 }
 
 type Codes = RangeInclusive<u32>;
 
-/// The codes of a SLOT, by what their labels say.
-#[derive(Default)]
+/// The codes of a SLOT with their labels, and what all others are called.
 struct Printed {
-    states: Vec<Codes>,
-    reserved: Vec<Codes>,
-    invalid: Vec<Codes>,
-    are_others_invalid: bool,
+    rows: Vec<(Codes, String)>,
+    others: String,
 }
 
 impl Printed {
-    fn take(&mut self, codes: &str, label: &str) {
-        let is_invalid = label.starts_with("Invalid");
-        match range(codes) {
-            Some(codes) if is_invalid => self.invalid.push(codes),
-            Some(codes) if label.starts_with("Reserved") => self.reserved.push(codes),
-            Some(codes) if !label.is_empty() => self.states.push(codes),
-            _ => self.are_others_invalid |= codes == "Others" && is_invalid,
+    /// From the lines up to the next SLOT or section.
+    fn of(lines: &[&str]) -> Printed {
+        let mut printed = Printed {
+            rows: Vec::new(),
+            others: "not printed".to_string(),
+        };
+        for line in lines {
+            let (first, label) = first_words(line);
+            if slot_reference(first).is_some() || line.starts_with("- 9.") {
+                break;
+            }
+            match range(first) {
+                Some(codes) if !label.is_empty() => printed.rows.push((codes, label)),
+                None if first == "Others" => printed.others = label,
+                _ => {}
+            }
         }
+        printed
     }
 
-    /// The lowest and the highest state; none if a code between is invalid.
+    fn states(&self) -> impl Iterator<Item = &Codes> {
+        let is_state =
+            |label: &str| !label.starts_with("Invalid") && !label.starts_with("Reserved");
+        let rows = self.rows.iter().filter(move |row| is_state(&row.1));
+        rows.map(|row| &row.0)
+    }
+
+    /// The lowest and the highest state: what is reserved or invalid counts at
+    /// neither end, and what lies between two states is inside, whatever the
+    /// text calls it.
     fn limits(&self) -> Option<(u32, u32)> {
-        let lowest = *self.states.iter().map(Codes::start).min()?;
-        let highest = *self.states.iter().map(Codes::end).max()?;
-        let is_broken = (lowest..=highest).any(|code| self.is_invalid(code));
-        (!is_broken).then_some((lowest, highest))
+        let lowest = *self.states().map(Codes::start).min()?;
+        let highest = *self.states().map(Codes::end).max()?;
+        Some((lowest, highest))
     }
 
-    fn is_invalid(&self, code: u32) -> bool {
-        let is_in = |list: &[Codes]| list.iter().any(|codes| codes.contains(&code));
-        let is_other = !is_in(&self.states) && !is_in(&self.reserved);
-        is_in(&self.invalid) || self.are_others_invalid && is_other
+    /// Runs of codes with one label, inside the limits and without a state.
+    fn between_states(&self) -> Vec<(Codes, &str)> {
+        let mut runs: Vec<(Codes, &str)> = Vec::new();
+        let Some((lowest, highest)) = self.limits() else {
+            return runs;
+        };
+        for code in lowest..=highest {
+            if self.states().any(|codes| codes.contains(&code)) {
+                continue;
+            }
+            let label = self.label(code);
+            match runs.last_mut() {
+                Some(run) if *run.0.end() + 1 == code && run.1 == label => {
+                    run.0 = *run.0.start()..=code;
+                }
+                _ => runs.push((code..=code, label)),
+            }
+        }
+        runs
+    }
+
+    fn label(&self, code: u32) -> &str {
+        let row = self.rows.iter().find(|row| row.0.contains(&code));
+        row.map_or(&self.others, |row| &row.1)
     }
 }
 
@@ -92,4 +131,14 @@ fn range(text: &str) -> Option<Codes> {
     let (first, last) = text.split_once('-').unwrap_or((text, text));
     let code = |digits: &str| u32::from_str_radix(digits.trim(), 16).ok();
     Some(code(first)?..=code(last)?)
+}
+
+/// As the text prints them: 0A or 02-0F.
+fn digits(codes: &Codes) -> String {
+    let (first, last) = (codes.start(), codes.end());
+    if first == last {
+        format!("{first:02X}")
+    } else {
+        format!("{first:02X}-{last:02X}")
+    }
 }
