@@ -14,6 +14,7 @@ mod report_item_classes;
 mod report_item_promises;
 mod report_items;
 mod report_places;
+mod report_states;
 mod report_tables;
 pub mod supplement;
 mod supplement_classes;

@@ -5,7 +5,7 @@ use super::draft::key_of;
 use super::kind::{number_16, number_32, Kind, Range, KINDS};
 use super::walk::{broken_ranges, Record, Walk};
 use super::{refused_answer, Rules, RULES};
-use crate::sae::{has_prn, has_slot, PRNS, SLOTS};
+use crate::sae::{has_gaps, has_prn, has_slot, PRNS, SLOTS};
 
 /// Answers in place of the rules.
 pub type Answer = Box<dyn Fn(&[u8]) -> u64>;
@@ -149,6 +149,9 @@ fn changed_tables() -> Vec<(String, Rules)> {
         }),
         table(0, "not the last", |body| {
             slot_key(body) != SLOTS[SLOTS.len() - 1].key() && has_slot(slot_key(body))
+        }),
+        table(0, "not those with gaps", |body| {
+            !has_gaps(slot_key(body)) && has_slot(slot_key(body))
         }),
         table(0, "by number alone", |body| {
             SLOTS.iter().any(|slot| slot.number == number_16(body, 2))

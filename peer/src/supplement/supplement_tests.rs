@@ -206,6 +206,15 @@ fn keys_in_the_sae_tables() {
     for row in SLOTS {
         assert_eq!(answer(&slot_record(row)), 15);
     }
+    for (width, number) in [(6, 1), (8, 4), (8, 5)] {
+        let states = Slot {
+            form: SED,
+            width,
+            number,
+            ..OWN_SLOT
+        };
+        assert_eq!(answer(&slot_record(&states)), 15);
+    }
     let packet = Slot {
         form: PKT,
         width: 8,

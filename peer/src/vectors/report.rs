@@ -2,7 +2,8 @@
 
 use super::report_coverage::Coverage;
 use super::report_frames::MOST_LENT;
-use super::{report_bench, report_frames, report_items, report_places, report_tables, Files};
+use super::{report_bench, report_frames, report_items, report_places};
+use super::{report_states, report_tables, Files};
 use crate::random::Random;
 use crate::report::case::ReportCase;
 use crate::text::{hex, hex_answer};
@@ -47,6 +48,7 @@ fn cases() -> Vec<ReportCase> {
     let bench = report_bench::all().into_iter();
     let mut cases: Vec<ReportCase> = bench.map(|bench| bench.case).collect();
     cases.extend(report_tables::cases(&mut random));
+    cases.extend(report_states::cases(&mut random));
     cases.extend(report_items::cases(&mut random));
     cases.extend(report_places::cases(&mut random));
     cases.extend(report_frames::cases(&mut random));

@@ -56,6 +56,9 @@ pub fn of_item(item: &Item, line: &Line) -> Vec<Class> {
     if has_prn(prn.prn) {
         classes.push(("SAE PRN", format!("{:04X}", prn.prn)));
     }
+    if has_prn(prn.prn) && prn.form == SED {
+        classes.push(("SAE code", code_name(prn.prn, item.raw, line_name(line))));
+    }
     if let Some(slot) = item.slot.filter(|slot| has_slot(slot.key())) {
         classes.push(("SAE SLOT", slot_name(&slot, "any place")));
     }
@@ -65,6 +68,10 @@ pub fn of_item(item: &Item, line: &Line) -> Vec<Class> {
         classes.extend(of_pieces(&slot, item.raw, line));
     }
     classes
+}
+
+pub fn code_name(prn: u16, code: u32, line: &str) -> String {
+    format!("{prn:04X} {code:02X} {line}")
 }
 
 pub fn pair(first: usize, later: usize) -> String {

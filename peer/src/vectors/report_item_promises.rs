@@ -1,7 +1,8 @@
 //! The classes of items that the report files promise.
 
 use super::counts::{named, Class};
-use super::report_item_classes::{letters, pair, piece_name, slot_name};
+use super::report_item_classes::{code_name, letters, pair, piece_name, slot_name};
+use super::report_states::{codes, GAPPED};
 use crate::report::item::{limits, BEHIND, RULES};
 use crate::sae::form::*;
 use crate::sae::{all_ones, Prn, Slot, PRNS, SLOTS};
@@ -15,6 +16,7 @@ pub fn promised() -> Vec<Class> {
         sources(),
         limits_of_widths(),
         sae_rows(),
+        states(),
         values(),
         texts(),
         digits(),
@@ -140,6 +142,19 @@ fn sae_rows() -> Vec<Class> {
         }
         if slot.form != SNM && lowest > 0 {
             classes.push(("SAE SLOT", slot_name(slot, "one below")));
+        }
+    }
+    classes
+}
+
+/// Every code of the PRNs that have gaps between their states.
+fn states() -> Vec<Class> {
+    let mut classes = Vec::new();
+    for (prn, lowest, highest) in GAPPED {
+        for code in codes(prn) {
+            let is_inside = (lowest..=highest).contains(&code);
+            let line = if is_inside { "shown" } else { "Unknown 5" };
+            classes.push(("SAE code", code_name(prn, code, line)));
         }
     }
     classes

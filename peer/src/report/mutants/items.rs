@@ -7,7 +7,7 @@ use crate::report::item::{is_outside, limits, pieces, raw_number, Item, RULES};
 use crate::report::line::Line;
 use crate::report::Rules;
 use crate::sae::form::*;
-use crate::sae::{all_ones, Slot};
+use crate::sae::{all_ones, has_gaps, Slot};
 
 /// The place of a rule, what is wrong, and the rule instead.
 pub type Changed = (usize, &'static str, fn(&Item) -> Option<Line>);
@@ -187,6 +187,11 @@ const OUTSIDE: &[Changed] = &[
     (9, "the highest too", |item| {
         let slot = item.slot.filter(|_| is_form(item, &[SED]))?;
         unknown_if(item.raw < slot.lowest || item.raw >= slot.highest, 5)
+    }),
+    (9, "invalid codes between states too", |item| {
+        let slot = item.slot.filter(|_| is_form(item, &[SED]))?;
+        let is_between = has_gaps(slot.key()) && item.raw.count_ones() > 1;
+        unknown_if(is_outside(item) || is_between, 5)
     }),
     (9, "another number", |item| {
         unknown_if(is_form(item, &[SED]) && is_outside(item), 4)

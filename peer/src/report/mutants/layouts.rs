@@ -215,6 +215,9 @@ pub const TABLES: &[Changed] = &[
             sae::slot_row(key).or(last.filter(|slot| slot.key() == key))
         }
     }),
+    ("SLOTs with gaps are none", |rules| {
+        rules.slot = |records, key| (RULES.slot)(records, key).filter(|_| !sae::has_gaps(key))
+    }),
     ("SLOT without form", |rules| {
         rules.slot =
             |records, key| any_slot(records, |slot| (slot.width, slot.number) == (key.1, key.2))
