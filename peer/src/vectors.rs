@@ -55,8 +55,11 @@ impl Files {
         new
     }
 
-    /// A case with a name that stands in a file beside it, on the line of the case.
+    /// A case with a name that stands in a file beside it, on the line of the
+    /// case: cases without a name come after all of these.
     fn add_named(&mut self, name: &str, case: String, expected: &str) {
+        let names = self.names.lines().count();
+        assert_eq!(names, self.cases(), "{name} stands on the line of its case");
         assert!(self.add(case, expected), "{name} is there already");
         self.names += &format!("{name}\n");
     }

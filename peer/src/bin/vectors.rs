@@ -1,7 +1,7 @@
 //! `vectors LAYER DIR` writes the cases of the frame, supplement or report layer
-//! to DIR/stdin and the expected output to DIR/stdout; `vectors tables DIR`
-//! writes the SAE tables to DIR/stdout; `vectors bench DIR` writes the bench
-//! cases of the papers, with a name for each in DIR/names.
+//! to DIR/stdin and the expected output to DIR/stdout; those of the report begin
+//! with the bench cases of the papers, with a name for each in DIR/names.
+//! `vectors tables DIR` writes the SAE tables to DIR/stdout.
 
 use peer::vectors;
 use std::env;
@@ -15,9 +15,8 @@ fn main() -> ExitCode {
         ["tables", _] => vectors::tables::make(),
         ["supplement", _] => vectors::supplement::make(),
         ["report", _] => vectors::report::make(),
-        ["bench", _] => vectors::report::make_bench(),
         _ => {
-            eprintln!("usage: vectors frame|tables|supplement|report|bench DIR");
+            eprintln!("usage: vectors frame|tables|supplement|report DIR");
             return ExitCode::from(2);
         }
     };

@@ -16,10 +16,19 @@ const BEHIND: usize = BUFFER - MOST_LENT;
 
 const SEED: u64 = 21781;
 
-/// The files, the counts, and the promised classes without a case.
+/// The files, the counts, and the promised classes without a case. The bench
+/// cases and the easy errors come first, each with its name and the answer that
+/// the papers print, written by hand and not computed; then come the cases that
+/// the rules answer.
 pub fn make() -> (Files, String, Vec<String>) {
     let mut files = Files::default();
     let mut coverage = Coverage::new();
+    for bench in report_bench::all() {
+        let expected = expected_line(bench.case.out_length, bench.number, &bench.rows);
+        files.add_named(bench.name, case_line(&bench.case), &expected);
+        coverage.count(&bench.case);
+    }
+    let bench = files.cases();
     for case in cases() {
         let (answer, written) = case.answer();
         let expected = expected_line(case.out_length, answer, &written);
@@ -27,32 +36,22 @@ pub fn make() -> (Files, String, Vec<String>) {
             coverage.count(&case);
         }
     }
-    let summary = format!("report: {} cases; {}", files.cases(), coverage.summary());
+    let (all, counts) = (files.cases(), coverage.summary());
+    let summary = format!("report: {all} cases, {bench} of them bench cases; {counts}");
     (files, summary, coverage.missing())
 }
 
-/// The bench cases and the easy errors, each with its name and the answer that
-/// the papers print.
-pub fn make_bench() -> (Files, String, Vec<String>) {
-    let mut files = Files::default();
-    for bench in report_bench::all() {
-        let expected = expected_line(bench.case.out_length, bench.number, &bench.rows);
-        files.add_named(bench.name, case_line(&bench.case), &expected);
-    }
-    let summary = format!("bench: {} cases", files.cases());
-    (files, summary, Vec::new())
-}
-
+/// The cases whose answers the rules give.
 fn cases() -> Vec<ReportCase> {
     let mut random = Random::new(SEED);
-    let bench = report_bench::all().into_iter();
-    let mut cases: Vec<ReportCase> = bench.map(|bench| bench.case).collect();
-    cases.extend(report_tables::cases(&mut random));
-    cases.extend(report_states::cases(&mut random));
-    cases.extend(report_items::cases(&mut random));
-    cases.extend(report_places::cases(&mut random));
-    cases.extend(report_frames::cases(&mut random));
-    cases
+    let groups = [
+        report_tables::cases(&mut random),
+        report_states::cases(&mut random),
+        report_items::cases(&mut random),
+        report_places::cases(&mut random),
+        report_frames::cases(&mut random),
+    ];
+    groups.into_iter().flatten().collect()
 }
 
 /// Three runs each after its length, and the lent output's length.

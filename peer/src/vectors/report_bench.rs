@@ -1,4 +1,5 @@
-//! The bench cases and the easy errors, with the answers that the papers print.
+//! The bench cases and the easy errors, with the answers that the papers print:
+//! written by hand, not computed by the rules.
 
 use crate::frame::check_byte::{check_byte, checked};
 use crate::report::case::ReportCase;

@@ -45,11 +45,19 @@ fn files_are_whole_and_the_same_each_time() {
     assert!(again.stdin == files.stdin && again.stdout == files.stdout);
 }
 
+/// The first lines of both files are those of the names.
 #[test]
-fn bench_cases_have_names_and_printed_answers() {
-    let (files, _, _) = make_bench();
-    assert_eq!(files.names.lines().count(), files.cases());
-    assert_eq!(files.names.lines().next(), Some("whole report"));
+fn bench_cases_come_first_with_names_and_printed_answers() {
+    let (files, _, _) = make();
+    let list = report_bench::all();
+    assert_eq!(files.names.lines().count(), list.len());
+    let lines = files.stdin.lines().zip(files.stdout.lines());
+    for ((name, (case, expected)), bench) in files.names.lines().zip(lines).zip(list) {
+        assert_eq!(name, bench.name);
+        assert_eq!(format!("{case}\n"), case_line(&bench.case), "{name}");
+        let printed = expected_line(bench.case.out_length, bench.number, &bench.rows);
+        assert_eq!(format!("{expected}\n"), printed.to_lowercase(), "{name}");
+    }
     let first = files.stdout.lines().next().unwrap();
     assert!(first.starts_with("0000000000001800 014059400000000000"));
 }
@@ -57,7 +65,8 @@ fn bench_cases_have_names_and_printed_answers() {
 /// What a line of expected output would show of a faulty report.
 #[test]
 fn deliberate_faults_are_noticed() {
-    let cases = cases();
+    let bench = report_bench::all().into_iter().map(|bench| bench.case);
+    let cases: Vec<ReportCase> = bench.chain(cases()).collect();
     let expected: Vec<String> = cases
         .iter()
         .map(|case| shown(case, case.answer()))
