@@ -1,9 +1,9 @@
--- Upper-case hexadecimal text, as the vector files have it.
-use Prim.Native.Nat.{ℕ, zero, suc, _+_, _-_, _*_}
+-- Hexadecimal text as the vector files have it: upper case in what is read, lower case in what is written.
+use Prim.Native.Nat.{ℕ, zero, suc, _+_, _-_, _*_, _/_, _%_, min}
 use mathlib.Core.Bool.{cond}
-use mathlib.Core.List.{List, [], _∷_}
+use mathlib.Core.List.{List, [], _∷_, _++_}
 use lib.Dec.{ltb}
-use lib.ListN.{getD}
+use lib.ListN.{getD, length, take, drop}
 
 -- The value of a digit; 0 for any other character.
 unfoldable pub digitValue : ℕ → ℕ
@@ -17,3 +17,20 @@ byteAt text at = digitValue (getD text at 0) * 16 + digitValue (getD text (at + 
 unfoldable pub bytesFrom : List ℕ → ℕ → ℕ → List ℕ
 bytesFrom text zero at = []
 bytesFrom text (suc n) at = byteAt text at ∷ bytesFrom text n (at + 2)
+
+-- The last digit of a number.
+unfoldable pub lastDigit : ℕ → ℕ
+lastDigit n = cond (ltb (n % 16) 10) (48 + n % 16) (87 + n % 16)
+
+-- The text of bytes, two digits each.
+unfoldable pub textOf : List ℕ → List ℕ
+textOf [] = []
+textOf (b ∷ bs) = lastDigit (b / 16) ∷ lastDigit b ∷ textOf bs
+
+-- How much of that text there is room for.
+abbrev pub textLength : List ℕ → ℕ → ℕ
+textLength bytes room = min (length (textOf bytes)) room
+
+-- A buffer with so much of the text at its start; what lies behind is as it was.
+unfoldable pub textOver : List ℕ → List ℕ → List ℕ
+textOver bytes out = take (textLength bytes (length out)) (textOf bytes) ++ drop (textLength bytes (length out)) out

@@ -3,9 +3,10 @@ use libc::STDIN_FILENO;
 use libc::STDOUT_FILENO;
 ghost use mathlib.Core.Path.{_≡_};
 ghost use mathlib.Core.Bool.{false};
-ghost use Prim.Native.Nat.{_<_};
+ghost use Prim.Native.Nat.{_/_, _<_};
 ghost use lib.ListN.{getD, length, drop};
 ghost use Rattle.hex.specs.Digits.{digitValue, byteAt, bytesFrom};
+ghost use Rattle.hex.specs.Digits.{lastDigit, textOf, textLength, textOver};
 
 // A digit's value; 0 for any other character.
 pub fn digit_value(c: u8) -> u8
@@ -52,6 +53,44 @@ pub fn fill(text: &[u8], out: &mut [u8])
         out[i] = byte_at(text, i * 2);
         i += 1;
     }
+}
+
+// The last digit of a number, in lower case.
+fn last_digit(n: u8) -> u8
+    ensures { λ r. ⌜ r ≡ lastDigit n ⌝ }
+{
+    let value = n % 16;
+    if value < 10 {
+        b'0' + value
+    } else {
+        b'a' - 10 + value
+    }
+}
+
+// The character at a place of the text of bytes.
+fn text_at(bytes: &[u8], at: usize) -> u8
+    requires { ⌜ at / 2 < length (now bytes) ⌝ }
+    ensures { λ r. ⌜ r ≡ getD (textOf (now (bytes .entry))) at 0 ⌝ }
+{
+    let byte = bytes[at / 2];
+    if at % 2 == 0 {
+        last_digit(byte / 16)
+    } else {
+        last_digit(byte)
+    }
+}
+
+// Writes the text of bytes to the start of `out`, as far as there is room, and answers how many characters that is.
+pub fn write_text(bytes: &[u8], out: &mut [u8]) -> usize
+    ensures answer { λ r. ⌜ r ≡ textLength (now (bytes .entry)) (length (now (out .entry))) ⌝ }
+    ensures lent { λ r. ⌜ now (out .exit) ≡ textOver (now (bytes .entry)) (now (out .entry)) ⌝ }
+{
+    let mut n: usize = 0;
+    while n < out.len() && n / 2 < bytes.len() {
+        out[n] = text_at(bytes, n);
+        n += 1;
+    }
+    n
 }
 
 // Reads so many digits, or characters between them, to the start of the text; whether all were there and had room. What was read is

@@ -37,7 +37,10 @@ digit-value-requires-2 : tie.Need-digit-value-requires-2
 digit-value-requires-2 c κs = search needs
 
 add-result : tie.Need-add-result
-add-result c = omega (arith, c .before .before .before .digit-value .ensures, small (c .before .before .before .before .char-at .result), c .digit-value2 .ensures, small (c .before .char-at2 .result))
+add-result c =
+    let high = c .before .before .before .digit-value .ensures in
+    let low = c .digit-value2 .ensures in
+    omega (arith, high, small (c .before .before .before .before .char-at .result), low, small (c .before .char-at2 .result))
 
 returns-2 : tie.Need-returns-2
 unfolding byteAt
