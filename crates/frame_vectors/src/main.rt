@@ -6,62 +6,89 @@
 use libc::STDIN_FILENO;
 use libc::STDOUT_FILENO;
 ghost use mathlib.Core.Path.{_≡_};
-ghost use Prim.Native.Nat.{_≤_};
+ghost use Prim.Native.Nat.{_+_, _≤_};
 ghost use lib.ListN.{length};
 
 const LINE: usize = 113;
 
-// A length of the line, at most `most`.
-fn length_at(line: &[u8], at: usize, most: usize) -> usize
-    ensures { λ r. ⌜ r ≤ most ⌝ }
-{
-    let n = hex::byte_at(line, at) as usize;
-    if n < most { n } else { most }
+// The columns of the lengths, and how far behind each its run starts.
+const FIRST: usize = 2;
+
+const SECOND: usize = 38;
+
+const THIRD: usize = 74;
+
+const ROOM: usize = 110;
+
+const TO_RUN: usize = 3;
+
+const RUN: usize = 16;
+
+const BUFFER: usize = 32;
+
+const TEXT: usize = 2 * BUFFER;
+
+const FILLING: u8 = 0xA5;
+
+const WORD_DIGITS: usize = 16;
+
+fn length_at(line: &[u8], at: usize) -> usize {
+    hex::byte_at(line, at) as usize
 }
 
 // The sixteen bytes of a run, whatever its length.
-fn run_at(line: &[u8], at: usize) -> [u8; 16]
+fn run_at(line: &[u8], at: usize) -> [u8; RUN]
+    requires { ⌜ at + 3 ≤ length (now line) ⌝ }
     ensures { λ r. ⌜ 16 ≡ length r ⌝ }
 {
-    let mut run = [0u8; 16];
-    if at < LINE {
-        for i in 0..16usize {
-            run[i] = hex::byte_at(line, at + 2 * i);
-        }
-    }
+    let start = at + TO_RUN;
+    let mut run = [0u8; RUN];
+    hex::fill(&line[start..], &mut run);
     run
 }
 
+// The first n bytes of a run, or all of a shorter one.
+fn counted(run: &[u8], n: usize) -> &[u8] {
+    if n < run.len() { &run[..n] } else { run }
+}
+
+// The same of a buffer that is written to.
+fn lent(out: &mut [u8], n: usize) -> &mut [u8] {
+    if n < out.len() { &mut out[..n] } else { out }
+}
+
 fn show_word(word: u64) {
-    io::print_hex(STDOUT_FILENO, word, 16);
+    io::print_hex(STDOUT_FILENO, word, WORD_DIGITS);
 }
 
-fn read_case(line: &[u8]) {
-    let first = run_at(line, 5);
-    let response = run_at(line, 41);
-    let n = length_at(line, 2, 16);
-    let m = length_at(line, 38, 16);
-    show_word(c_api::rakhubole_j1850_read(&first[..n], &response[..m]));
+fn show_buffer(bytes: &[u8; BUFFER]) {
+    let mut text = [0u8; TEXT];
+    hex::write_text(bytes, &mut text);
+    io::write_all(STDOUT_FILENO, &text);
 }
 
-fn write_into(header: &[u8], body: &[u8], answer: &[u8], out: &mut [u8], room: usize) -> u64
-    requires { ⌜ room ≤ length (now out) ⌝ }
-{
-    c_api::rakhubole_j1850_write(header, body, answer, &mut out[..room])
+fn read_case(line: &[u8; LINE]) {
+    let first = run_at(line, FIRST);
+    let response = run_at(line, SECOND);
+    show_word(c_api::rakhubole_j1850_read(
+        counted(&first, length_at(line, FIRST)),
+        counted(&response, length_at(line, SECOND)),
+    ));
 }
 
-fn write_case(line: &[u8]) {
-    let header = run_at(line, 5);
-    let body = run_at(line, 41);
-    let answer = run_at(line, 77);
-    let h = length_at(line, 2, 16);
-    let d = length_at(line, 38, 16);
-    let a = length_at(line, 74, 16);
-    let room = length_at(line, 110, 32);
-    let mut out = [0xA5u8; 32];
-    show_word(write_into(&header[..h], &body[..d], &answer[..a], &mut out, room));
+fn write_case(line: &[u8; LINE]) {
+    let header = run_at(line, FIRST);
+    let body = run_at(line, SECOND);
+    let answer = run_at(line, THIRD);
+    let mut out = [FILLING; BUFFER];
+    show_word(c_api::rakhubole_j1850_write(
+        counted(&header, length_at(line, FIRST)),
+        counted(&body, length_at(line, SECOND)),
+        counted(&answer, length_at(line, THIRD)),
+        lent(&mut out, length_at(line, ROOM)),
+    ));
     io::write_all(STDOUT_FILENO, b" ");
-    hex::print_bytes(&out);
+    show_buffer(&out);
 }
 
 // Reads a line, runs its case and answers whether there may be another.
