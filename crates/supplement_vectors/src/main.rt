@@ -4,13 +4,20 @@
 use libc::STDIN_FILENO;
 use libc::STDOUT_FILENO;
 ghost use mathlib.Core.Path.{_≡_};
-ghost use Prim.Native.Nat.{_≤_};
+ghost use Prim.Native.Nat.{_<_};
 ghost use lib.ListN.{length};
 
 const MOST: usize = 16400;
 
+// Four digits and the space.
+const HEAD: usize = 5;
+
+const WORD_DIGITS: usize = 16;
+
 // The four digits that a line starts with.
-fn length_of(head: &[u8]) -> usize {
+fn length_of(head: &[u8]) -> usize
+    ensures { λ r. ⌜ r < 65536 ⌝ }
+{
     let high = hex::byte_at(head, 0) as usize;
     let low = hex::byte_at(head, 2) as usize;
     high * 256 + low
@@ -22,35 +29,33 @@ fn zeros() -> [u8; MOST]
     [0; MOST]
 }
 
-// Tests the first n bytes that the text spells.
-fn run_case(text: &[u8], bytes: &mut [u8], n: usize)
-    requires { ⌜ n ≤ length (now bytes) ⌝ }
-{
-    hex::fill(text, bytes);
-    io::print_hex(
-        STDOUT_FILENO,
-        c_api::rakhubole_supplement_check(&bytes[..n]),
-        16,
-    );
-    io::write_all(STDOUT_FILENO, b"\n");
+// The first n of the bytes, or all where they are fewer.
+fn counted(bytes: &[u8], n: usize) -> &[u8] {
+    if n < bytes.len() { &bytes[..n] } else { bytes }
+}
+
+// The same of a buffer that is written to.
+fn lent(out: &mut [u8], n: usize) -> &mut [u8] {
+    if n < out.len() { &mut out[..n] } else { out }
 }
 
 // Reads a line, runs its case and answers whether there may be another.
 fn next_case() -> bool {
-    let mut head = [0u8; 5];
-    if io::read_full(STDIN_FILENO, &mut head) < 5 {
+    let mut head = [0u8; HEAD];
+    if io::read_full(STDIN_FILENO, &mut head) < HEAD {
         return false;
     }
     let n = length_of(&head);
-    if MOST < n {
-        return false;
-    }
+    let size = n * 2 + 1;
     let mut text = io::large_buffer();
-    if !hex::read_digits(&mut text, n * 2 + 1) {
+    if MOST < n || io::read_full(STDIN_FILENO, lent(&mut text, size)) < size {
         return false;
     }
     let mut bytes = zeros();
-    run_case(&text, &mut bytes, n);
+    hex::fill(&text, &mut bytes);
+    let answer = c_api::rakhubole_supplement_check(counted(&bytes, n));
+    io::print_hex(STDOUT_FILENO, answer, WORD_DIGITS);
+    io::write_all(STDOUT_FILENO, b"\n");
     true
 }
 
