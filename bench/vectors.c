@@ -79,6 +79,5 @@ size_t visit_vectors(const char *crates, visit *visitor, void *state)
 {
     return visit_file(crates, "frame_vectors", frame_case, visitor, state) +
            visit_file(crates, "supplement_vectors", supplement_case, visitor, state) +
-           visit_file(crates, "report_vectors", report_case, visitor, state) +
-           visit_file(crates, "bench_cases", report_case, visitor, state);
+           visit_file(crates, "report_vectors", report_case, visitor, state);
 }

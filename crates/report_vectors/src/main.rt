@@ -1,4 +1,124 @@
-// The report vectors of the second program, through the exported call.
+// Runs document 01's bench cases and the report vectors through the exported call and prints what each answers.
+//
+// A line of standard input is one case in hexadecimal: the supplement, the first run and the response, each as four digits of its
+// length, a space, its bytes and a space; then four digits of how much is lent of a buffer. The answer is shown with the lent bytes
+// and the two behind them. The bench cases stand first, and the file `names` beside `stdin` names each; P1 to P13 are proved of the
+// definitions in proofs/BenchLaws.antt.
+use libc::STDIN_FILENO;
+use libc::STDOUT_FILENO;
+ghost use mathlib.Core.Path.{_≡_};
+ghost use Prim.Native.Nat.{_<_};
+ghost use lib.ListN.{length};
+
+const SUPPLEMENT: usize = 16400;
+
+const RUN: usize = 16;
+
+const BUFFER: usize = 160;
+
+const TEXT: usize = 2 * BUFFER;
+
+// How many bytes behind the lent ones are shown.
+const BEHIND: usize = 2;
+
+const FILLING: u8 = 0xA5;
+
+// Four digits and the character behind them.
+const NUMBER: usize = 5;
+
+const WORD_DIGITS: usize = 16;
+
+// A number of the line, and whether it was there.
+struct Number {
+    there: bool,
+    value: usize,
+}
+
+fn supplement_buffer() -> [u8; SUPPLEMENT]
+    ensures { λ r. ⌜ 16400 ≡ length r ⌝ }
+{
+    [0; SUPPLEMENT]
+}
+
+// The first n of the bytes, or all where they are fewer.
+fn counted(bytes: &[u8], n: usize) -> &[u8] {
+    if n < bytes.len() { &bytes[..n] } else { bytes }
+}
+
+// The same of a buffer that is written to.
+fn lent(out: &mut [u8], n: usize) -> &mut [u8] {
+    if n < out.len() { &mut out[..n] } else { out }
+}
+
+fn read_number() -> Number
+    ensures { λ r. ⌜ r .value < 65536 ⌝ }
+{
+    let mut text = [0u8; NUMBER];
+    let got = io::read_full(STDIN_FILENO, &mut text);
+    let high = hex::byte_at(&text, 0) as usize;
+    let low = hex::byte_at(&text, 2) as usize;
+    Number {
+        there: got == NUMBER,
+        value: high * 256 + low,
+    }
+}
+
+// A run into a buffer that has room for it, and its length.
+fn read_run(run: &mut [u8]) -> Number {
+    let number = read_number();
+    let n = number.value;
+    let size = n * 2 + 1;
+    let mut text = io::large_buffer();
+    let got = io::read_full(STDIN_FILENO, lent(&mut text, size));
+    hex::fill(&text, run);
+    Number {
+        there: got == size && n <= run.len(),
+        value: n,
+    }
+}
+
+fn show_bytes(bytes: &[u8]) {
+    let mut text = [0u8; TEXT];
+    let n = hex::write_text(bytes, &mut text);
+    io::write_all(STDOUT_FILENO, counted(&text, n));
+}
+
+fn run_case(supplement: &[u8], first: &[u8], response: &[u8], room: usize)
+    requires { ⌜ room < 65536 ⌝ }
+{
+    let mut out = [FILLING; BUFFER];
+    let answer = c_api::rakhubole_j1850_report(supplement, first, response, lent(&mut out, room));
+    io::print_hex(STDOUT_FILENO, answer, WORD_DIGITS);
+    io::write_all(STDOUT_FILENO, b" ");
+    show_bytes(counted(&out, room + BEHIND));
+    io::write_all(STDOUT_FILENO, b"\n");
+}
+
+// Reads a line, runs its case and answers whether there may be another.
+fn next_case() -> bool {
+    let mut supplement = supplement_buffer();
+    let mut first = [0u8; RUN];
+    let mut response = [0u8; RUN];
+    let s = read_run(&mut supplement);
+    let f = read_run(&mut first);
+    let r = read_run(&mut response);
+    let room = read_number();
+    if !(s.there && f.there && r.there && room.there) {
+        return false;
+    }
+    run_case(
+        counted(&supplement, s.value),
+        counted(&first, f.value),
+        counted(&response, r.value),
+        room.value,
+    );
+    true
+}
+
+// The turns are counted down, since a proved loop has to end and nothing says that the input does.
 fn main() {
-    report_cases::run_all();
+    let mut turns = u64::MAX;
+    while turns > 0 && next_case() {
+        turns -= 1;
+    }
 }

@@ -11,9 +11,10 @@ use Rattle.catalogue.specs.Tables.{slotRows}
 use Rattle.catalogue.specs.Search.{firstWhere}
 use Rattle.catalogue.specs.Sae.{saeSlot}
 use Rattle.report.specs.Scaling.{signed, pattern, rawNumber, above, numberLine, withinLimits, formLine}
-use Rattle.bench_cases.specs.BenchCases.{benchCases, lineBy, answered, expected}
+use Rattle.report_vectors.specs.BenchCases.{benchCases, lineBy, answered, expected}
 
 -- In every case of the table the definitions answer what is expected.
 pub bench-cases-hold : map answered benchCases ≡ map expected benchCases
-unfolding benchCases answered expected lineBy formLine withinLimits inOrder pattern numberLine above rawNumber signed ofInt div saeSlot firstWhere slotRows readRefusal readRules firstBroken headerSize
+unfolding benchCases answered expected lineBy formLine withinLimits inOrder pattern numberLine above rawNumber signed ofInt div
+    saeSlot firstWhere slotRows readRefusal readRules firstBroken headerSize
 bench-cases-hold = refl
