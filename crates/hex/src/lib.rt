@@ -1,12 +1,14 @@
 // Hexadecimal text to bytes and back, for the programs that run vector files.
-use libc::STDIN_FILENO;
-use libc::STDOUT_FILENO;
 ghost use mathlib.Core.Path.{_≡_};
-ghost use mathlib.Core.Bool.{false};
 ghost use Prim.Native.Nat.{_/_, _<_};
-ghost use lib.ListN.{getD, length, drop};
+ghost use lib.ListN.{getD, length};
 ghost use Rattle.hex.specs.Digits.{digitValue, byteAt, bytesFrom};
 ghost use Rattle.hex.specs.Digits.{lastDigit, textOf, textLength, textOver};
+
+const BASE: u8 = 16;
+
+// How many digits a byte has.
+const DIGITS: usize = 2;
 
 // A digit's value; 0 for any other character.
 pub fn digit_value(c: u8) -> u8
@@ -41,7 +43,7 @@ pub fn byte_at(text: &[u8], at: usize) -> u8
     if text.len() <= at {
         return 0;
     }
-    high * 16 + digit_value(char_at(text, at + 1))
+    high * BASE + digit_value(char_at(text, at + 1))
 }
 
 // Fills `out` with the bytes that a text starts with; what the text lacks is zero.
@@ -50,7 +52,7 @@ pub fn fill(text: &[u8], out: &mut [u8])
 {
     let mut i: usize = 0;
     while i < out.len() {
-        out[i] = byte_at(text, i * 2);
+        out[i] = byte_at(text, i * DIGITS);
         i += 1;
     }
 }
@@ -59,7 +61,7 @@ pub fn fill(text: &[u8], out: &mut [u8])
 fn last_digit(n: u8) -> u8
     ensures { λ r. ⌜ r ≡ lastDigit n ⌝ }
 {
-    let value = n % 16;
+    let value = n % BASE;
     if value < 10 {
         b'0' + value
     } else {
@@ -72,9 +74,9 @@ fn text_at(bytes: &[u8], at: usize) -> u8
     requires { ⌜ at / 2 < length (now bytes) ⌝ }
     ensures { λ r. ⌜ r ≡ getD (textOf (now (bytes .entry))) at 0 ⌝ }
 {
-    let byte = bytes[at / 2];
-    if at % 2 == 0 {
-        last_digit(byte / 16)
+    let byte = bytes[at / DIGITS];
+    if at % DIGITS == 0 {
+        last_digit(byte / BASE)
     } else {
         last_digit(byte)
     }
@@ -86,30 +88,9 @@ pub fn write_text(bytes: &[u8], out: &mut [u8]) -> usize
     ensures lent { λ r. ⌜ now (out .exit) ≡ textOver (now (bytes .entry)) (now (out .entry)) ⌝ }
 {
     let mut n: usize = 0;
-    while n < out.len() && n / 2 < bytes.len() {
+    while n < out.len() && n / DIGITS < bytes.len() {
         out[n] = text_at(bytes, n);
         n += 1;
     }
     n
-}
-
-// Reads so many digits, or characters between them, to the start of the text; whether all were there and had room. What was read is
-// the input's; what lies behind is as it was, and without room all is.
-pub fn read_digits(text: &mut [u8], size: usize) -> bool
-    ensures room { λ r. ⌜ (length (now (text .entry)) < size → (r ≡ false) × (now (text .exit) ≡ now (text .entry))) ⌝ }
-    ensures behind { λ r. ⌜ drop size (now (text .exit)) ≡ drop size (now (text .entry)) ⌝ }
-{
-    if text.len() < size {
-        return false;
-    }
-    size <= io::read_full(STDIN_FILENO, &mut text[..size])
-}
-
-// Prints bytes, two digits each.
-pub fn print_bytes(bytes: &[u8]) {
-    let mut i: usize = 0;
-    while i < bytes.len() {
-        io::print_hex(STDOUT_FILENO, bytes[i] as u64, 2);
-        i += 1;
-    }
 }

@@ -1,21 +1,23 @@
 -- After n turns the first n characters stand in their places.
-use mathlib.Core.Path.{refl}
-use Prim.Native.Nat.{_-_, _/_, _≤_}
+use mathlib.Core.Path.{_≡_, refl}
+use Prim.Native.Nat.{_-_, _/_, _≤_, _<_}
 use native.Mathlib.Omega.{arith}
 use borrow.Author.Tests.{ltb-true, ltb-false}
 use lib.ListN.{length}
-use Rattle.hex.proofs.TextLaws.{Begun, kept, one-more, finished, length-text}
+use Rattle.hex.specs.Digits.{textOf, textLength, textOver}
+use Rattle.hex.proofs.TextLaws.{length-text}
+use Rattle.hex.proofs.PutLaws.{Put, kept, one-more, ended}
 use Rattle.hex.proofs.write_text.Statement.{statement}
 use Rattle.hex.proofs.write_text.Tie as tie
 
 abbrev Inv-loop : tie.InvT-loop
-Inv-loop bytes out₀ n₀ out n = Begun bytes out₀ out n
+Inv-loop bytes out₀ n₀ out n = Put (textOf bytes) out₀ out n
 
 abbrev μ-loop : tie.MeasureT-loop
 μ-loop bytes out₀ n₀ out n = length out₀ - n
 
 loop-holds : tie.Need-loop-holds Inv-loop μ-loop
-loop-holds c = record { put = refl; room = omega arith; there = omega arith }
+loop-holds c = record { so-far = refl; room = omega arith; there = omega arith }
 
 text-at-requires : tie.Need-text-at-requires Inv-loop μ-loop
 text-at-requires c κs = ltb-true _ _ (c .if1 .taken)
@@ -31,25 +33,33 @@ loop-less c = omega (arith, kept (c .before .before .before .loop .inv))
 
 loop-again : tie.Need-loop-again Inv-loop μ-loop
 loop-again c =
-    let inv = c .before .before .before .loop .inv in
-    one-more inv _ (omega (arith, kept inv)) (ltb-true _ _ (c .before .if1 .taken)) (c .text-at .ensures)
+    let bytes = c .before .before .before .before .before .before .args .bytes .now in
+    let more : c .before .before .before .loop .n / 2 < length bytes = ltb-true _ _ (c .before .if1 .taken) in
+    one-more (c .before .before .before .loop .inv) _ (omega arith) (omega (arith, length-text bytes)) (c .text-at .ensures)
 
 same-length : tie.Need-same-length Inv-loop μ-loop
 same-length c = kept (c .before .before .loop .inv)
 
 returns : tie.Need-returns Inv-loop μ-loop
+unfolding textOver
 returns c =
-    let bytes = c .before .before .before .before .before .args .bytes .now in
-    let spent : length bytes ≤ c .before .before .loop .n / 2 = ltb-false _ _ (c .if1 .left) in
-    finished (c .before .before .loop .inv) (omega (arith, length-text bytes))
+    let inv = c .before .before .loop .inv in
+    let a = c .before .before .before .before .before .args in
+    let end : length (a .bytes .now) ≤ c .before .before .loop .n / 2 = ltb-false _ _ (c .if1 .left) in
+    let all : c .before .before .loop .n ≡ textLength (a .bytes .now) (length (a .out .now)) =
+    omega (arith, length-text (a .bytes .now)) in
+    (all, ended inv all)
 
 same-length-2 : tie.Need-same-length-2 Inv-loop μ-loop
 same-length-2 c = kept (c .before .loop .inv)
 
 returns-2 : tie.Need-returns-2 Inv-loop μ-loop
+unfolding textOver
 returns-2 c =
     let inv = c .before .loop .inv in
-    finished inv (omega (arith, kept inv))
+    let a = c .before .before .before .before .args in
+    let all : c .before .loop .n ≡ textLength (a .bytes .now) (length (a .out .now)) = omega (arith, kept inv) in
+    (all, ended inv all)
 
 pub write-text-spec : {M : Type 1} → statement M
 write-text-spec =
