@@ -24,7 +24,7 @@ const BEHIND: usize = 2;
 const FILLING: u8 = 0xA5;
 
 // Four digits and the character behind them.
-const NUMBER: usize = 5;
+const HEAD: usize = 5;
 
 const WORD_DIGITS: usize = 16;
 
@@ -53,12 +53,12 @@ fn lent(out: &mut [u8], n: usize) -> &mut [u8] {
 fn read_number() -> Number
     ensures { λ r. ⌜ r .value < 65536 ⌝ }
 {
-    let mut text = [0u8; NUMBER];
+    let mut text = [0u8; HEAD];
     let got = io::read_full(STDIN_FILENO, &mut text);
     let high = hex::byte_at(&text, 0) as usize;
     let low = hex::byte_at(&text, 2) as usize;
     Number {
-        there: got == NUMBER,
+        there: got == HEAD,
         value: high * 256 + low,
     }
 }

@@ -1,5 +1,4 @@
 -- The remainder is below sixteen, and each branch is its range.
-use mathlib.Core.Path.{sym}
 use native.Mathlib.Omega.{arith}
 use borrow.Author.Tests.{lt-ltb, le-ltb}
 use Rattle.hex.specs.Digits.{lastDigit}
