@@ -1,20 +1,20 @@
 -- What an accepted supplement is, and that it is found again in any supplement that has its records.
 use mathlib.Core.Path.{_≡_, refl, sym, ap, _∙_, subst}
-use mathlib.Core.Logic.{_↔_, _⊎_, inl, inr, ⊎-elim}
-use mathlib.Core.Bool.{Bool, true, false, cond, _&&_, true≢false}
+use mathlib.Core.Logic.{_↔_, _⊎_, ⊎-elim}
+use mathlib.Core.Bool.{true, false, true≢false}
 use mathlib.Core.Option.{Option, none, some}
-use mathlib.Core.List.{List, [], _∷_, _++_, append-assoc, append-nil, List·Memᴰ, List·Memᴰ·head, List·Memᴰ·tail, List·Memᴰ·cases-cons, List·Memᴰ·append-cases, List·Memᴰ·eq-of-singleton, List·Memᴰ·not-nil, Memᴰ·append-left, Memᴰ·append-right}
+use mathlib.Core.List.{List, [], _∷_, _++_, List·Memᴰ, List·Memᴰ·head, List·Memᴰ·tail, List·Memᴰ·cases-cons, List·Memᴰ·append-cases, List·Memᴰ·eq-of-singleton, List·Memᴰ·not-nil, Memᴰ·append-left, Memᴰ·append-right}
 use Prim.Native.Nat.{ℕ, zero, suc, _+_, _≤_, _<_}
 use native.Mathlib.Omega.{arith}
 use borrow.Author.Tests.{eq-eqb, eqb-true, eqb-false, ltb-true, ltb-false, le-ltb}
 use lib.Dec.{eqb, ltb}
-use lib.ListN.{length, take, drop, getD, length-take}
+use lib.ListN.{length, take, drop, length-take}
 use lib.Seq.{getD-take, length-take-le}
 use Rattle.frame.proofs.ByteLaws.{cases}
 use Rattle.catalogue.specs.Search.{firstWhere, isFound}
 use Rattle.catalogue.proofs.SearchLaws.{both, found-is, none-is, none-found, not-found}
 use Rattle.catalogue.specs.declared.supplement.Checked.{Checked}
-use Rattle.catalogue.specs.Record.{recordSize, keySize, kindOf, keyOf, hasKey, inRange, inSae, fault}
+use Rattle.catalogue.specs.Record.{recordSize, keySize, kindOf, keyOf, hasKey, fault}
 use Rattle.catalogue.specs.Supplement.{recordsIn, recordsOf, checkFrom, check, Accepted, Sound, Distinct, Obeys, Stands, recordWith}
 use Rattle.catalogue.proofs.RecordLaws.{size-positive, key-within, known-key}
 use Rattle.catalogue.proofs.CheckLaws.{Free, free, faultless, check-over}

@@ -1,16 +1,15 @@
 -- Laws of the supplement's test.
-use mathlib.Core.Path.{_≡_, refl, sym, ap, _∙_, subst}
-use mathlib.Core.Bool.{Bool, true, false, cond, not}
+use mathlib.Core.Path.{_≡_, sym, ap, _∙_}
+use mathlib.Core.Bool.{true, false, not}
 use mathlib.Core.List.{List, [], _∷_, _++_}
 use Prim.Native.Nat.{ℕ, zero, suc, _+_, _≤_, _<_}
 use native.Mathlib.Nat.{add-zero}
 use native.Mathlib.Omega.{arith}
-use borrow.Author.Tests.{lt-ltb, le-ltb, ltb-false, le-leb, lt-leb, leb-false, eq-eqb, ne-eqb, not-false}
+use borrow.Author.Tests.{lt-ltb, le-ltb, ltb-false, lt-leb, leb-false, eq-eqb, ne-eqb, not-false}
 use lib.Dec.{ltb, eqb, lit<}
 use lib.ListN.{length, take, drop, getD, length-take, length-drop, drop-of-length-le}
 use lib.Seq.{getD-take, getD-drop}
 use Rattle.frame.proofs.ByteLaws.{cases}
-use Rattle.frame.specs.Rule.{Rule, firstBroken}
 use Rattle.frame.proofs.RuleLaws.{kept, last-kept, none-broken}
 use Rattle.catalogue.specs.Search.{firstWhere, isFound}
 use Rattle.catalogue.specs.declared.supplement.Checked.{Checked}

@@ -2,12 +2,12 @@
 use mathlib.Core.Path.{_≡_, refl, sym, ap, _∙_, subst}
 use mathlib.Core.Bool.{true, false}
 use mathlib.Core.Option.{Option, none, some}
-use mathlib.Core.List.{List, []}
+use mathlib.Core.List.{List}
 use Prim.Native.Nat.{ℕ, min, _≤_, _<_}
 use native.Mathlib.Omega.{arith}
 use borrow.Author.Tests.{leb-true, leb-false}
 use lib.Dec.{leb}
-use lib.ListN.{length, take, getD, replicate, length-take}
+use lib.ListN.{length, take, getD, length-take}
 use lib.Seq.{take-all, getD-take}
 use Rattle.frame.proofs.ByteLaws.{cases}
 use Rattle.catalogue.specs.declared.rows.PrnRow.{PrnRow}

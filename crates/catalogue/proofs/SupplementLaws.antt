@@ -1,15 +1,15 @@
 -- Laws of a supplement as its records.
 use mathlib.Core.Path.{_≡_, refl, sym, ap, _∙_, subst}
 use mathlib.Core.Logic.{_⊎_, ⊎-elim}
-use mathlib.Core.Bool.{Bool, true, false, cond}
-use mathlib.Core.List.{List, [], _∷_, _++_, append-assoc, append-nil, List·Memᴰ, List·Memᴰ·head, List·Memᴰ·tail, List·Memᴰ·append-cases, List·Memᴰ·eq-of-singleton, List·Memᴰ·not-nil}
+use mathlib.Core.Bool.{true, false}
+use mathlib.Core.List.{List, [], _∷_, _++_, List·Memᴰ, List·Memᴰ·head, List·Memᴰ·tail, List·Memᴰ·append-cases, List·Memᴰ·eq-of-singleton, List·Memᴰ·not-nil}
 use Prim.Native.Nat.{ℕ, zero, suc, _+_, _-_, _≤_, _<_}
 use native.Mathlib.Nat.{add-zero}
 use native.Mathlib.Omega.{arith}
 use borrow.Author.Tests.{leb-true, leb-false}
 use lib.Dec.{leb}
-use lib.ListN.{length, take, drop, getD, length-drop, length-take, length-append, drop-of-length-le}
-use lib.Seq.{take-append-le, drop-append-le, take-length, drop-length, length-take-le, take-all, drop-drop, take-add, getD-drop, getD-take, take-take}
+use lib.ListN.{length, take, drop, getD, length-drop, length-take, drop-of-length-le}
+use lib.Seq.{take-append-le, drop-append-le, take-length, drop-length, length-take-le, take-all, drop-drop, take-add, getD-drop, getD-take}
 use Rattle.frame.proofs.ByteLaws.{cases}
 use mathlib.Core.Option.{none, some}
 use Rattle.catalogue.specs.Search.{firstWhere}

@@ -2,14 +2,13 @@
 use mathlib.Core.Path.{_≡_, refl, sym, ap, _∙_, subst}
 use mathlib.Core.Logic.{⊎-elim}
 use mathlib.Core.Option.{Option, none, some}
-use mathlib.Core.List.{List, [], _∷_, _++_, List·Memᴰ, List·Memᴰ·append-cases, Memᴰ·append-left, Memᴰ·append-right}
-use Prim.Native.Nat.{ℕ, _<_}
+use mathlib.Core.List.{List, _++_, List·Memᴰ, List·Memᴰ·append-cases, Memᴰ·append-left, Memᴰ·append-right}
+use Prim.Native.Nat.{ℕ}
 use native.Mathlib.Omega.{arith}
-use Rattle.catalogue.specs.Search.{firstWhere}
 use Rattle.catalogue.specs.Sae.{saePrn, saeSlot}
 use Rattle.catalogue.proofs.SearchLaws.{found-is}
 use Rattle.catalogue.specs.Record.{keySize, hasKey, slotRow, prnRow, layoutRow}
-use Rattle.catalogue.specs.Supplement.{recordsOf, Accepted, Stands, recordWith, Among, Whole}
+use Rattle.catalogue.specs.Supplement.{recordsOf, Accepted, recordWith, Among, Whole}
 use Rattle.catalogue.specs.Lookup.{prnKey, slotKey, layoutKey, orElse, catalogue, Within}
 use Rattle.catalogue.proofs.SupplementLaws.{records-append}
 use Rattle.catalogue.proofs.AcceptedLaws.{FullKey, found-again, sound}

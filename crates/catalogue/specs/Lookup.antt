@@ -1,7 +1,7 @@
 -- What SAE tables and a supplement hold together.
 use Prim.Native.Nat.{ℕ, _/_, _%_, min}
 use mathlib.Core.Path.{_≡_}
-use mathlib.Core.Bool.{Bool, true, false, cond}
+use mathlib.Core.Bool.{true, false, cond}
 use mathlib.Core.List.{List, [], _∷_}
 use mathlib.Core.Option.{Option, none, some}
 use lib.ListN.{take, getD, replicate}

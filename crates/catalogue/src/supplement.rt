@@ -9,7 +9,7 @@ use frame::bytes::byte_at;
 ghost use mathlib.Core.Path.{_≡_};
 ghost use mathlib.Core.List.{[], _∷_, _++_};
 ghost use Prim.Native.Nat.{_+_, _≤_, _<_};
-ghost use lib.ListN.{length, take, drop, getD};
+ghost use lib.ListN.{length, getD};
 ghost use Rattle.catalogue.specs.Search.{firstWhere, isFound};
 ghost use Rattle.catalogue.specs.Record.{recordSize, kindOf, keySize, keyOf, hasKey, fault};
 ghost use Rattle.catalogue.specs.Supplement.{recordsOf, recordWith, check};

@@ -8,7 +8,7 @@ use mathlib.Core.List.{List}
 use native.Mathlib.Omega.{arith}
 use borrow.Author.Tests.{ltb-true, ltb-false}
 use lib.Dec.{T, ltb}
-use lib.ListN.{length, take, getD, length-take, List·getD-eq-default}
+use lib.ListN.{take, length-take, List·getD-eq-default}
 use lib.Seq.{getD-take}
 use mir.Facts.{and-yes}
 use Rattle.frame.specs.Bytes.{Bytes}

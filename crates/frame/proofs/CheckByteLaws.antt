@@ -1,20 +1,20 @@
 -- Laws of the register and the check byte.
-use mathlib.Core.Path.{_≡_, refl, sym, ap, _∙_, subst}
+use mathlib.Core.Path.{_≡_, refl, sym, ap, _∙_}
 use mathlib.Core.Logic.{_↔_}
-use mathlib.Core.Bool.{Bool, true, false, cond, _&&_, _||_, not, true≢false}
+use mathlib.Core.Bool.{Bool, true, cond, _&&_, _||_, not, true≢false}
 use mathlib.Core.List.{List, [], _∷_, _++_}
-use Prim.Native.Nat.{ℕ, zero, suc, _+_, _-_, _*_, _%_, _^_, _≤_, _<_}
+use Prim.Native.Nat.{ℕ, zero, suc, _+_, _-_, _*_, _%_, _≤_, _<_}
 use native.Mathlib.Omega.{arith}
 use native.Mathlib.Numerals.{add-one}
-use borrow.Author.Tests.{eq-eqb, ne-eqb, eqb-true, lt-ltb, ltb-false, ltb-true}
-use lib.Bits.{bitAnd, bitOr, bitXor, xor-lt, xor-add-and, or-add-and, or-lt}
+use borrow.Author.Tests.{eq-eqb, ne-eqb, eqb-true, lt-ltb, ltb-true}
+use lib.Bits.{bitAnd, bitXor, xor-lt, xor-add-and, or-add-and, or-lt}
 use lib.Dec.{T, ltb, eqb, ltb→lt, eqb→eq}
 use lib.ListN.{length, take, drop, getD, length-append, drop-of-length-le}
 use lib.Seq.{drop-cons, take-at, getD-at, split-at}
 use Rattle.frame.specs.CheckByte.{step, steps, feed, register, checkByte, sealed, isSealed}
 use mir.Facts.{and-yes}
 use Rattle.frame.specs.Bytes.{Bytes}
-use Rattle.frame.proofs.ByteLaws.{all, below, cases, bytes-take}
+use Rattle.frame.proofs.ByteLaws.{below, cases, bytes-take}
 
 -- One step as the code computes it: the high bit by a mask, the move by a shift.
 coded : ℕ → ℕ

@@ -1,12 +1,11 @@
 -- Laws of reading.
 use mathlib.Core.Path.{_≡_, refl, sym, ap, _∙_, subst}
-use mathlib.Core.Logic.{_↔_}
-use mathlib.Core.Bool.{Bool, true, false, not, _&&_, cond, true≢false}
-use mathlib.Core.List.{List, [], _∷_}
+use mathlib.Core.Bool.{false, not, _&&_, true≢false}
+use mathlib.Core.List.{List}
 use Prim.Native.Nat.{ℕ, _+_, _-_, _≤_, _<_}
 use native.Mathlib.Omega.{arith}
-use borrow.Author.Tests.{lt-ltb, le-ltb, ltb-false, eq-eqb, ne-eqb, eqb-true, eqb-false, not-false}
-use lib.Dec.{ltb, eqb, lit<}
+use borrow.Author.Tests.{le-ltb, ltb-false, eq-eqb, ne-eqb, eqb-true, eqb-false, not-false}
+use lib.Dec.{eqb, lit<}
 use lib.ListN.{length, take, drop, length-drop}
 use lib.Seq.{length-take-le}
 use Rattle.frame.specs.declared.header.ResponseKind.{ResponseKind}
@@ -14,7 +13,7 @@ use Rattle.frame.specs.declared.header.ResponseKind.the-variants.{Empty,
 use Rattle.frame.specs.CheckByte.{isSealed}
 use Rattle.frame.specs.Header.{headerSize, kindOf, kindNumber, isUnassigned, isChecked}
 use Rattle.frame.specs.Frame.{Parts, wrongCount}
-use Rattle.frame.specs.Rule.{Outcome, refused, accepted, outcome, Rule, firstBroken}
+use Rattle.frame.specs.Rule.{Outcome, refused, accepted}
 use Rattle.frame.specs.Reader.{answerSize, readRules, readRefusal, partsOf, readFrame, ResponseObeys, Obeys, Sizes, sizes, Handed}
 use Rattle.frame.proofs.ByteLaws.{cases}
 use Rattle.frame.proofs.HeaderLaws.{header-range}

@@ -1,27 +1,27 @@
 -- Demand 2 for frames: acceptance, the two round trips, and the agreement of reader and writer.
 use mathlib.Core.Path.{_≡_, refl, sym, ap, _∙_}
 use mathlib.Core.Logic.{_↔_, _⊎_, ⊎-elim}
-use mathlib.Core.Bool.{Bool, true, false, not, _&&_, cond}
+use mathlib.Core.Bool.{false, not, _&&_, cond}
 use mathlib.Core.List.{List, [], _∷_, _++_, append-assoc}
-use Prim.Native.Nat.{ℕ, suc, _+_, _-_, _≤_, _<_}
+use Prim.Native.Nat.{ℕ, _+_, _-_, _≤_, _<_}
 use native.Mathlib.Omega.{arith}
-use borrow.Author.Tests.{le-ltb, lt-ltb, ltb-false, ltb-true, eq-eqb, ne-eqb, eqb-true, eqb-false, not-false}
-use lib.Dec.{ltb, eqb}
-use lib.ListN.{length, take, drop, getD, length-append, length-drop, List·getD-append}
-use lib.Seq.{take-at, drop-at, take-length, take-all, length-take-le, take-add, getD-take}
+use borrow.Author.Tests.{le-ltb, lt-ltb, eq-eqb}
+use lib.Dec.{ltb}
+use lib.ListN.{length, take, drop, getD, length-append, List·getD-append}
+use lib.Seq.{take-at, drop-at, take-length, length-take-le, take-add, getD-take}
 use Rattle.frame.specs.declared.header.ResponseKind.{ResponseKind}
 use Rattle.frame.specs.declared.header.ResponseKind.the-variants.{Empty, Single, Several, Data, Unassigned}
 use Rattle.frame.specs.CheckByte.{checkByte, sealed, isSealed}
-use Rattle.frame.specs.Header.{bitH, messageType, headerSize, responseKind, kindOf, isUnassigned, isChecked}
+use Rattle.frame.specs.Header.{headerSize, kindOf, isUnassigned, isChecked}
 use Rattle.frame.specs.Frame.{Frame, Parts, answered, wrongCount, limit}
-use Rattle.frame.specs.Rule.{Outcome, refused, accepted, Rule, firstBroken}
+use Rattle.frame.specs.Rule.{accepted, firstBroken}
 use Rattle.frame.specs.Reader.{answerSize, readRules, readRefusal, partsOf, readFrame, ResponseObeys, Obeys}
 use Rattle.frame.specs.Writer.{frameOf, frameSize, writeRules, writeRefusal, writeFrame}
 use Rattle.frame.proofs.ByteLaws.{cases}
 use Rattle.frame.proofs.CheckByteLaws.{length-sealed, sealed-is, sealed-again, taken-sealed}
 use Rattle.frame.proofs.HeaderLaws.{header-range, one-or-three, same-size, same-kind}
-use Rattle.frame.proofs.RuleLaws.{accepted-is, broken, kept, none-broken}
-use Rattle.frame.proofs.ReaderLaws.{ResponseKept, response-kept, obeys, read-accepts, answer-size-le}
+use Rattle.frame.proofs.RuleLaws.{accepted-is, broken}
+use Rattle.frame.proofs.ReaderLaws.{response-kept, obeys, read-accepts, answer-size-le}
 use Rattle.frame.proofs.WriterLaws.{Writes, writes, write-accepts, frame-total, length-answered, answered-checked, answered-plain}
 use Rattle.frame.proofs.ReaderLaws as reader
 use Rattle.frame.proofs.WriterLaws as writer

@@ -6,7 +6,7 @@ use Prim.Native.Nat.{ℕ, _<_}
 use borrow.Author.Tests.{eq-eqb, ne-eqb, eqb-true, eqb-false}
 use lib.Dec.{eqb}
 use native.Mathlib.Omega.{arith}
-use Rattle.frame.specs.Rule.{Outcome, refused, accepted, outcome, Rule, firstBroken}
+use Rattle.frame.specs.Rule.{refused, accepted, outcome, Rule, firstBroken}
 use Rattle.frame.proofs.ByteLaws.{cases}
 
 -- A broken rule gives its number, whatever follows; a kept one passes on.

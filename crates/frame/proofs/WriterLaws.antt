@@ -1,25 +1,23 @@
 -- Laws of writing: the size of a frame, and the writer's rules.
 use mathlib.Core.Path.{_≡_, refl, sym, ap, _∙_, subst}
 use mathlib.Core.Bool.{Bool, true, false, cond, not}
-use mathlib.Core.List.{List, [], _∷_, _++_, append-assoc}
-use Prim.Native.Nat.{ℕ, suc, _+_, _-_, _≤_, _<_}
+use mathlib.Core.List.{List, [], _∷_, _++_}
+use Prim.Native.Nat.{ℕ, _+_, _-_, _≤_, _<_}
 use native.Mathlib.Omega.{arith}
-use native.Mathlib.Numerals.{add-one}
 use borrow.Author.Tests.{lt-ltb, le-ltb, ltb-false, eq-eqb, eqb-true, eqb-false, not-false}
 use lib.Dec.{ltb, eqb, lit<}
-use lib.ListN.{length, take, drop, set, length-append, length-drop}
-use lib.Seq.{paste, paste-zero, length-paste, take-length, length-take-le, take-append-le, take-take, take-at, drop-at, set-split, append-snoc, drop-drop}
+use lib.ListN.{length, take, drop, length-append}
 use Rattle.frame.specs.declared.header.ResponseKind.{ResponseKind}
 use Rattle.frame.specs.CheckByte.{checkByte, sealed}
 use Rattle.frame.specs.Header.{isChecked, isUnassigned, headerSize, kindOf}
-use Rattle.frame.specs.Frame.{Frame, answered, wrongCount}
+use Rattle.frame.specs.Frame.{answered, wrongCount}
 use Rattle.frame.specs.Bytes.{placed}
-use Rattle.frame.specs.Rule.{Outcome, refused, accepted}
+use Rattle.frame.specs.Rule.{refused, accepted}
 use Rattle.frame.specs.Writer.{frameOf, frameSize, writeRules, writeRefusal, writeFrame, Runs, runs}
 use Rattle.frame.proofs.RuleLaws.{kept, last-kept, none-broken, unrefused-is, refused-is}
 use Rattle.frame.proofs.ByteLaws.{cases}
 use Rattle.frame.proofs.CheckByteLaws.{length-sealed}
-use Rattle.frame.proofs.PlacedLaws.{part-placed, placed-behind, joined}
+use Rattle.frame.proofs.PlacedLaws.{part-placed, joined}
 
 pub length-answered : (kind : ResponseKind) (a : List ℕ) → length (answered kind a) ≡ cond (isChecked kind) (length a + 1) (length a)
 unfolding answered

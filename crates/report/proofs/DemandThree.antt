@@ -17,7 +17,7 @@ use Rattle.catalogue.specs.Lookup.{Catalogue, Within, catalogue}
 use Rattle.catalogue.proofs.WithinLaws.{within}
 use Rattle.report.specs.declared.line.Line.{Line}
 use Rattle.report.specs.declared.items.Place.the-variants.{Bit}
-use Rattle.report.specs.Report.{Message, messageOf, Group, layoutSought, itemsOf, groupOf, responseLine, reportOf, groupLines, linesOf, isUnknown, any, verdict}
+use Rattle.report.specs.Report.{Message, messageOf, Group, layoutSought, itemsOf, groupOf, responseLine, reportOf, groupLines, linesOf, isUnknown, verdict}
 use Rattle.report.specs.Rows.{row}
 use Rattle.report.specs.Demand.{Name, item, remainder, response, lineIn, remainderIn, lineAt, under, Keeps}
 use Rattle.report.proofs.KeptLaws.{Kept, AllKept, items-kept, place-same, remainder-kept}

@@ -1,6 +1,6 @@
 -- Laws of an item's line and of the place behind it.
 use mathlib.Core.Path.{_≡_, refl, sym, ap, _∙_, subst}
-use mathlib.Core.Bool.{Bool, true, false, cond, not}
+use mathlib.Core.Bool.{Bool, true, false, cond}
 use mathlib.Core.List.{List, [], _∷_, _++_}
 use mathlib.Core.Option.{Option, none, some}
 use Prim.Native.Nat.{ℕ, zero, suc, _+_, _*_, _/_, _%_, _^_, _≤_, _<_}
@@ -13,8 +13,7 @@ use lib.Seq.{take-suc}
 use Rattle.frame.proofs.ByteLaws.{cases}
 use Rattle.catalogue.specs.declared.rows.PrnRow.{PrnRow}
 use Rattle.catalogue.specs.declared.rows.SlotRow.{SlotRow}
-use Rattle.catalogue.specs.declared.lookup.Layout.{Layout}
-use Rattle.catalogue.specs.Lookup.{Catalogue, layoutOf}
+use Rattle.catalogue.specs.Lookup.{Catalogue}
 use Rattle.report.specs.declared.items.Place.{Place}
 use Rattle.report.specs.declared.items.Place.the-variants.{Bit, Lost, Past}
 use Rattle.report.specs.declared.line.Held.{Held}

@@ -1,10 +1,10 @@
 -- What a smaller catalogue does to the lines: each is the same, or Unknown.
-use mathlib.Core.Path.{_≡_, refl, sym, ap, _∙_, subst}
+use mathlib.Core.Path.{_≡_, refl, sym, ap, subst}
 use mathlib.Core.Logic.{_⊎_, inl, inr, ⊎-elim}
-use mathlib.Core.Bool.{Bool, true, false, cond, _||_}
-use mathlib.Core.List.{List, [], _∷_, _++_}
+use mathlib.Core.Bool.{Bool, true, false, cond}
+use mathlib.Core.List.{List, [], _∷_}
 use mathlib.Core.Option.{Option, none, some}
-use Prim.Native.Nat.{ℕ, _+_}
+use Prim.Native.Nat.{ℕ}
 use native.Mathlib.Omega.{arith}
 use Rattle.catalogue.specs.declared.rows.PrnRow.{PrnRow}
 use Rattle.catalogue.specs.declared.rows.SlotRow.{SlotRow}
@@ -12,7 +12,7 @@ use Rattle.catalogue.specs.Lookup.{Catalogue, Within}
 use Rattle.report.specs.declared.items.Place.{Place}
 use Rattle.report.specs.declared.items.Place.the-variants.{Bit, Lost, Past}
 use Rattle.report.specs.declared.line.Line.{Line}
-use Rattle.report.specs.declared.line.Line.the-variants.{Short, Unknown}
+use Rattle.report.specs.declared.line.Line.the-variants.{Short}
 use Rattle.report.specs.Items.{overruns, slotLine, rowLine, rowNext, itemLine, next, itemLines, placeAfter}
 use Rattle.report.specs.Report.{isUnknown, remainderAt}
 

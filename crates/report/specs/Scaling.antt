@@ -5,9 +5,9 @@ use lib.Dec.{eqb, leb, ltb}
 use lib.IntN.{ℤ, pos, negℤ, _+ℤ_, _*ℤ_}
 use lib.Ieee.{binary64, ofInt, div}
 use Rattle.catalogue.specs.declared.rows.SlotRow.{SlotRow}
-use Rattle.catalogue.specs.Rows.{UNM, SNM, SED, BMP, ASC, BCD, inOrder}
+use Rattle.catalogue.specs.Rows.{SNM, SED, BMP, ASC, inOrder}
 use Rattle.report.specs.declared.line.Line.{Line}
-use Rattle.report.specs.declared.line.Line.the-variants.{Number, State, Bits, Text, Digits, Invalid, Short, Unknown, Left, Answered}
+use Rattle.report.specs.declared.line.Line.the-variants.{Number, State, Bits, Text, Digits, Invalid, Unknown}
 
 -- The number of a 32-bit pattern in two's complement.
 unfoldable pub signed : ℕ → ℤ

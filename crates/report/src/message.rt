@@ -12,7 +12,7 @@ use catalogue::lookup::find_layout;
 ghost use mathlib.Core.Path.{_≡_};
 ghost use mathlib.Core.Bool.{false, cond};
 ghost use mathlib.Core.List.{_∷_, [], _++_};
-ghost use Prim.Native.Nat.{_+_, _≤_, _<_};
+ghost use Prim.Native.Nat.{_+_, _≤_};
 ghost use lib.ListN.{length, drop};
 ghost use Rattle.catalogue.specs.Supplement.{Accepted};
 ghost use Rattle.catalogue.specs.Lookup.{catalogue, layoutOf};

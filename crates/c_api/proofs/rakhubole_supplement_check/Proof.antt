@@ -1,5 +1,5 @@
 -- A place is at most 16,384, so that the answer holds it above the refusal.
-use mathlib.Core.Path.{_≡_, ap}
+use mathlib.Core.Path.{ap}
 use Prim.Native.Nat.{_≤_}
 use native.Mathlib.Omega.{arith}
 use Rattle.catalogue.proofs.CheckLaws.{place-small}

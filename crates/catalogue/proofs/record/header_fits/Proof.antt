@@ -1,5 +1,5 @@
 -- H by shift and mask decides which field has to be zero.
-use mathlib.Core.Path.{_≡_, sym, _∙_}
+use mathlib.Core.Path.{sym, _∙_}
 use borrow.Author.Tests.{eq-eqb, ne-eqb}
 use Rattle.frame.specs.Header.{bitH}
 use Rattle.frame.proofs.HeaderLaws.{masked-h}

@@ -1,5 +1,5 @@
 -- By kind, with the fields read from the record.
-use mathlib.Core.Path.{_≡_, sym, ap, _∙_}
+use mathlib.Core.Path.{sym, ap, _∙_}
 use Rattle.catalogue.specs.Rows.{prnFits, slotFits}
 use Rattle.catalogue.proofs.RecordLaws.{range-slot, range-prn, range-layout}
 use borrow.Author.Needs.{needs}

@@ -1,5 +1,5 @@
 -- By kind, with the fields read from the record.
-use mathlib.Core.Path.{_≡_, sym, _∙_}
+use mathlib.Core.Path.{sym, _∙_}
 use Rattle.catalogue.specs.Search.{isFound}
 use Rattle.catalogue.specs.Sae.{saePrn, saeSlot}
 use Rattle.catalogue.proofs.RecordLaws.{sae-slot, sae-prn, sae-layout}

@@ -1,5 +1,5 @@
 -- Raised patterns are in the order of the signed numbers.
-use mathlib.Core.Path.{_≡_, sym, _∙_}
+use mathlib.Core.Path.{sym, _∙_}
 use borrow.Author.Tests.{eq-eqb, ne-eqb}
 use lib.Dec.{leb}
 use Rattle.catalogue.specs.Rows.{inOrder}

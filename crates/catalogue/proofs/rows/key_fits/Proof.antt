@@ -1,6 +1,5 @@
 -- Each test is a part of the definition.
 use mathlib.Core.Path.{sym}
-use native.Mathlib.Omega.{arith}
 use borrow.Author.Tests.{le-leb, lt-leb}
 use Rattle.catalogue.specs.Rows.{keyFits}
 use Rattle.catalogue.proofs.rows.key_fits.Statement.{statement}

@@ -1,5 +1,5 @@
 -- Each test is a part of the definition.
-use mathlib.Core.Path.{_≡_, sym, _∙_}
+use mathlib.Core.Path.{sym, _∙_}
 use borrow.Author.Tests.{not-true, not-false, le-leb, lt-leb}
 use Rattle.catalogue.specs.Rows.{slotFits}
 use borrow.Author.Needs.{needs}

@@ -1,7 +1,7 @@
 -- After k turns the register has made k steps.
-use mathlib.Core.Path.{_≡_, refl, sym, ap, _∙_}
+use mathlib.Core.Path.{_≡_, refl, ap, _∙_}
 use lib.Bits.{bitXor}
-use Prim.Native.Nat.{ℕ, _≤_, _-_, _+_, suc}
+use Prim.Native.Nat.{ℕ, _≤_, _-_}
 use native.Mathlib.Omega.{arith}
 use native.Mathlib.Numerals.{add-one}
 use Rattle.frame.specs.CheckByte.{step, steps, feed}

@@ -1,11 +1,10 @@
 -- An empty run has no last byte; otherwise the two sides of the comparison are those of the definition.
-use mathlib.Core.Path.{_≡_, sym, ap}
-use Prim.Native.Nat.{_-_, _<_}
+use mathlib.Core.Path.{sym}
+use Prim.Native.Nat.{_-_}
 use native.Mathlib.Omega.{arith}
 use borrow.Author.Needs.{needs}
 use borrow.Author.Tests.{le-ltb, lt-ltb}
-use lib.Dec.{eqb}
-use lib.ListN.{length, getD}
+use lib.ListN.{length}
 use lib.Seq.{length-take-le}
 use Rattle.frame.specs.CheckByte.{isSealed}
 use Rattle.frame.proofs.check_byte.is_sealed.Statement.{statement}

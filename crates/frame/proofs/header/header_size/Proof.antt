@@ -1,5 +1,5 @@
 -- Bit 4, moved down and masked, is H.
-use mathlib.Core.Path.{_≡_, sym, ap, _∙_}
+use mathlib.Core.Path.{sym, ap, _∙_}
 use Rattle.frame.specs.Header.{bitH}
 use Rattle.frame.proofs.HeaderLaws.{masked-h, three, one}
 use borrow.Author.Needs.{needs}

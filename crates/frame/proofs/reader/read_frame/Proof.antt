@@ -1,10 +1,10 @@
 -- A refusal is handed on; with none, the frame obeys the rules and its parts are as long as said.
-use mathlib.Core.Path.{_≡_, sym, ap, _∙_}
-use Prim.Native.Nat.{_+_, _-_, _≤_}
+use mathlib.Core.Path.{sym, ap, _∙_}
+use Prim.Native.Nat.{_+_, _-_}
 use native.Mathlib.Omega.{arith}
 use lib.ListN.{length}
 use Rattle.frame.specs.Rule.{refused, accepted}
-use Rattle.frame.specs.Header.{headerSize, kindOf, kindNumber}
+use Rattle.frame.specs.Header.{kindNumber}
 use Rattle.frame.specs.Reader.{answerSize, Obeys, sizes}
 use Rattle.frame.proofs.HeaderLaws.{header-range}
 use Rattle.frame.proofs.ReaderLaws.{obeys, read-accepts, read-refuses, accepted-sizes}

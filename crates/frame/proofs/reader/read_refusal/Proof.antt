@@ -1,13 +1,10 @@
 -- Each test is its rule; a test that is passed leaves the rules after it.
-use mathlib.Core.Path.{_≡_, refl, sym, ap, _∙_}
-use mathlib.Core.Bool.{Bool, true, false, not, _&&_}
-use Prim.Native.Nat.{_+_}
+use mathlib.Core.Path.{_≡_, sym, ap, _∙_}
 use native.Mathlib.Omega.{arith}
 use borrow.Author.Needs.{needs}
 use borrow.Author.Tests.{lt-ltb, le-ltb}
 use lib.ListN.{length, drop}
-use Rattle.frame.specs.CheckByte.{isSealed}
-use Rattle.frame.specs.Header.{headerSize, kindOf, isUnassigned, isChecked}
+use Rattle.frame.specs.Header.{kindOf, isUnassigned, isChecked}
 use Rattle.frame.specs.declared.header.ResponseKind.{ResponseKind}
 use Rattle.frame.specs.Frame.{wrongCount}
 use Rattle.frame.specs.Rule.{firstBroken}

@@ -1,5 +1,5 @@
 -- One store behind the part whose check byte it is.
-use mathlib.Core.Path.{_≡_, ap, _∙_}
+use mathlib.Core.Path.{ap, _∙_}
 use mathlib.Core.List.{_∷_, []}
 use Prim.Native.Nat.{ℕ}
 use Rattle.frame.specs.Bytes.{placed}

@@ -1,5 +1,5 @@
 -- Short if the item ends past the data, else by its SLOT.
-use mathlib.Core.Path.{_≡_, sym, _∙_}
+use mathlib.Core.Path.{sym, _∙_}
 use native.Mathlib.Omega.{arith}
 use Rattle.catalogue.specs.Lookup.{catalogue}
 use Rattle.report.proofs.ItemLaws.{row-short, row-whole}

@@ -1,7 +1,5 @@
 -- With a layout the place says what is left, without one there is none to say.
-use mathlib.Core.Path.{_≡_, _∙_}
 use borrow.Author.Needs.{needs}
-use Rattle.report.specs.Report.{remainderAt}
 use Rattle.report.proofs.message.group_remainder.Statement.{statement}
 use Rattle.report.proofs.message.group_remainder.Tie as tie
 
