@@ -33,7 +33,7 @@ checkFrom seen at (r ∷ rs) =
 unfoldable pub check : List ℕ → Checked
 check s = cond (ltb 16384 (length s)) (record { refusal = 10; place = 0 }) (checkFrom [] 0 (recordsOf s))
 
--- Accepted is "a supplement if none of 10 to 15 does" apply.
+-- "A frame is accepted if none of the reader's refusals applies to it, a supplement if none of 10 to 15 does."
 abbrev pub Accepted : List ℕ → Type 0
 Accepted s = check s .refusal ≡ 0
 
