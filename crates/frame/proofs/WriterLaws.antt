@@ -49,18 +49,19 @@ frame-longer h d a =
 pub over-twelve : (h d a : List ℕ) → 12 < length d + length a → ltb 12 (frameSize (frameOf h d a)) ≡ true
 over-twelve h d a l = lt-ltb 12 (frameSize (frameOf h d a)) (omega (arith, frame-longer h d a))
 
--- A check byte put right behind a run that was placed seals it.
+-- The check byte of what stands from a place on, put right behind a run that was placed there, seals it.
 pub sealed-behind :
-    (out : List ℕ) (at : ℕ) (u : List ℕ) {o o′ : List ℕ} {n : ℕ}
+    (out : List ℕ) (at : ℕ) (u : List ℕ) {o o′ : List ℕ} {from n : ℕ}
     → o ≡ placed out at u
-    → o′ ≡ placed o n (checkByte (take (n - at) (drop at o)) ∷ [])
+    → o′ ≡ placed o n (checkByte (take (n - from) (drop from o)) ∷ [])
+    → from ≡ at
     → n ≡ at + length u
     → at + length u ≤ length out
     → o′ ≡ placed out at (sealed u)
 unfolding sealed
-sealed-behind out at u {o = o} {n = n} e e′ p fits =
-    let size : n - at ≡ length u = omega (arith, p) in
-    let found : take (n - at) (drop at o) ≡ u = (λ i. take (size i) (drop at (e i))) ∙ part-placed out at u fits in
+sealed-behind out at u {o = o} {from = from} {n = n} e e′ f p fits =
+    let size : n - from ≡ length u = omega (arith, f, p) in
+    let found : take (n - from) (drop from o) ≡ u = (λ i. take (size i) (drop (f i) (e i))) ∙ part-placed out at u fits in
     joined out at u (checkByte u ∷ []) e (e′ ∙ ap (λ (w : List ℕ). placed o n (checkByte w ∷ [])) found) p fits
 
 pub answered-checked : (kind : ResponseKind) (a : List ℕ) → isChecked kind ≡ true → answered kind a ≡ sealed a

@@ -46,15 +46,17 @@ loop-again : tie.Need-loop-again Inv-loop μ-loop
 loop-again c =
     let prns = c .before .before .loop .prns in
     let i = c .before .before .loop .i in
-    let inv = c .before .before .loop .inv in (
+    let inv = c .before .before .loop .inv in
+    let bytes = c .before .before .before .before .args .bytes .now in
+    let read : c .two-at .result ≡ two bytes (6 + i * 2) = c .two-at .ensures in (
       λ j h.
           cases (eqb j i)
           (λ t.
           let e = eqb-true j i t in
           ap (λ (k : ℕ). getD (set prns i (c .two-at .result)) k 0) e
           ∙ getD-set-same prns i (c .two-at .result) 0 (omega (arith, inv .1))
-          ∙ c .two-at .ensures
-          ∙ ap (λ (k : ℕ). two (c .before .before .before .before .args .bytes .now) (6 + k * 2)) (sym e))
+          ∙ read
+          ∙ ap (λ (k : ℕ). two bytes (6 + k * 2)) (sym e))
           (λ f. getD-set-other prns i j (c .two-at .result) 0 (eqb-false j i f) ∙ inv .0 j (omega (arith, eqb-false j i f))),
       simp length-set (inv .1),
       omega arith,

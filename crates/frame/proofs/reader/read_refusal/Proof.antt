@@ -4,6 +4,7 @@ use native.Mathlib.Omega.{arith}
 use borrow.Author.Needs.{needs}
 use borrow.Author.Tests.{lt-ltb, le-ltb}
 use lib.ListN.{length, drop}
+use Rattle.frame.specs.CheckByte.{isSealed}
 use Rattle.frame.specs.Header.{kindOf, isUnassigned, isChecked}
 use Rattle.frame.specs.declared.header.ResponseKind.{ResponseKind}
 use Rattle.frame.specs.Frame.{wrongCount}
@@ -112,17 +113,20 @@ checked c = ap isChecked (sym (c .before .before .before .before .before .before
 is-sealed-requires-2 : tie.Need-is-sealed-requires-2
 is-sealed-requires-2 c κs = search needs
 
+response-sealed : (c : tie.After-is-sealed2) → isSealed (c .before .before .before .before .before .before .before .before .before .before .before .before .before .before .before .before .args .response .now) ≡ c .is-sealed2 .result
+response-sealed c = sym (c .is-sealed2 .ensures)
+
 returns-6 : tie.Need-returns-6
 unfolding readRules
 returns-6 c =
     sym (past5 (c .before .before .before .before)
-    ∙ broken _ _ (rw (checked (c .before .before .before), c .before .before .if6 .taken, sym (c .before .is-sealed2 .ensures)) (c .if7 .taken)))
+    ∙ broken _ _ (rw (checked (c .before .before .before), c .before .before .if6 .taken, response-sealed (c .before)) (c .if7 .taken)))
 
 returns-7 : tie.Need-returns-7
 unfolding readRules
 returns-7 c =
     sym (past5 (c .before .before .before .before)
-    ∙ last-kept _ (rw (checked (c .before .before .before), c .before .before .if6 .taken, sym (c .before .is-sealed2 .ensures)) (c .if7 .left)))
+    ∙ last-kept _ (rw (checked (c .before .before .before), c .before .before .if6 .taken, response-sealed (c .before)) (c .if7 .left)))
 
 returns-8 : tie.Need-returns-8
 unfolding readRules

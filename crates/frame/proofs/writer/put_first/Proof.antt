@@ -1,4 +1,5 @@
 -- Header and data are placed one behind the other, and the check byte seals them.
+use mathlib.Core.Path.{refl}
 use mathlib.Core.List.{_++_}
 use native.Mathlib.Omega.{arith}
 use lib.ListN.{length-append}
@@ -28,14 +29,20 @@ same-length : tie.Need-same-length
 same-length c = search needs
 
 returns : tie.Need-returns
-returns c = (
-  sealed-behind (c .before .before .before .before .before .before .before .before .before .before .before .before .before .before .before .args .out .now) 0 ((c .before .before .before .before .before .before .before .before .before .before .before .before .before .before .before .args .header .now) ++ (c .before .before .before .before .before .before .before .before .before .before .before .before .before .before .before .args .body .now))
-      (joined (c .before .before .before .before .before .before .before .before .before .before .before .before .before .before .before .args .out .now) 0 (c .before .before .before .before .before .before .before .before .before .before .before .before .before .before .before .args .header .now) (c .before .before .before .before .before .before .before .before .before .before .before .before .before .before .before .args .body .now) (c .before .before .before .before .before .before .before .before .before .before .put .ensures) (c .before .before .before .before .before .before .put2 .ensures) (omega arith) (omega arith))
-      (c .before .before .seal .ensures)
-      (omega (arith, length-append (c .before .before .before .before .before .before .before .before .before .before .before .before .before .before .before .args .header .now) (c .before .before .before .before .before .before .before .before .before .before .before .before .before .before .before .args .body .now)))
-      (omega (arith, length-append (c .before .before .before .before .before .before .before .before .before .before .before .before .before .before .before .args .header .now) (c .before .before .before .before .before .before .before .before .before .before .before .before .before .before .before .args .body .now))),
-  omega (arith, length-append (c .before .before .before .before .before .before .before .before .before .before .before .before .before .before .before .args .header .now) (c .before .before .before .before .before .before .before .before .before .before .before .before .before .before .before .args .body .now), length-sealed ((c .before .before .before .before .before .before .before .before .before .before .before .before .before .before .before .args .header .now) ++ (c .before .before .before .before .before .before .before .before .before .before .before .before .before .before .before .args .body .now))),
-)
+returns c =
+    let start = c .before .before .before .before .before .before .before .before .before .before .before .before .before .before .before .args in
+    let header = start .header .now in
+    let body = start .body .now in
+    let put = c .before .before .before .before .before .before .before .before .before .before .put .ensures in
+    let size = length-append header body in (
+      sealed-behind (start .out .now) 0 (header ++ body)
+          (joined (start .out .now) 0 header body put (c .before .before .before .before .before .before .put2 .ensures) (omega arith) (omega arith))
+          (c .before .before .seal .ensures)
+          refl
+          (omega (arith, size))
+          (omega (arith, size)),
+      omega (arith, size, length-sealed (header ++ body)),
+    )
 
 pub put-first-spec : {M : Type 1} → statement M
 put-first-spec =

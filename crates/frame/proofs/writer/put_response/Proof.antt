@@ -1,8 +1,10 @@
 -- The response is placed; a check byte seals it if its kind has one.
 use mathlib.Core.Path.{_≡_, refl, sym, ap, _∙_}
+use mathlib.Core.Bool.{true}
 use Prim.Native.Nat.{_+_}
 use native.Mathlib.Omega.{arith}
 use lib.ListN.{length}
+use Rattle.frame.specs.Header.{isChecked}
 use Rattle.frame.specs.Frame.{answered}
 use Rattle.frame.specs.Bytes.{placed}
 use Rattle.frame.proofs.CheckByteLaws.{length-sealed}
@@ -34,11 +36,15 @@ same-length : tie.Need-same-length
 same-length c = search needs
 
 returns : tie.Need-returns
-returns c = (
-  sealed-behind (c .before .before .before .before .before .before .before .before .before .before .before .before .args .out .now) (c .before .before .before .before .before .before .before .before .before .before .before .before .args .at) (c .before .before .before .before .before .before .before .before .before .before .before .before .args .answer .now) (c .before .before .before .before .before .before .before .before .put .ensures) (c .before .before .seal .ensures) refl (omega (arith, checked (c .before .before .before .before)))
-      ∙ ap (placed (c .before .before .before .before .before .before .before .before .before .before .before .before .args .out .now) (c .before .before .before .before .before .before .before .before .before .before .before .before .args .at)) (sym (answered-checked (c .before .before .before .before .before .before .before .before .before .before .before .before .args .kind) (c .before .before .before .before .before .before .before .before .before .before .before .before .args .answer .now) (sym (c .before .before .before .before .before .is-checked .ensures) ∙ c .before .before .before .before .if1 .taken))),
-  sym (checked (c .before .before .before .before)),
-)
+returns c =
+    let start = c .before .before .before .before .before .before .before .before .before .before .before .before .args in
+    let asked = c .before .before .before .before in
+    let is : isChecked (start .kind) ≡ true = sym (asked .before .is-checked .ensures) ∙ asked .if1 .taken in
+    let put = asked .before .before .before .before .put .ensures in (
+      sealed-behind (start .out .now) (start .at) (start .answer .now) put (c .before .before .seal .ensures) refl refl (omega (arith, checked asked))
+          ∙ ap (placed (start .out .now) (start .at)) (sym (answered-checked (start .kind) (start .answer .now) is)),
+      sym (checked asked),
+    )
 
 same-length-2 : tie.Need-same-length-2
 same-length-2 c = search needs
