@@ -1,5 +1,5 @@
 -- One limit after the other, both of the pattern.
-use mathlib.Core.Path.{sym, ap, _∙_}
+use mathlib.Core.Path.{_≡_, sym, ap, _∙_}
 use Prim.Native.Nat.{ℕ}
 use borrow.Author.Tests.{not-true, not-false}
 use Rattle.catalogue.specs.Rows.{inOrder}
@@ -28,7 +28,9 @@ returns-2 c =
     let a = c .before .before .before .before .args in
     let p = c .before .before .before .pattern-of .ensures in
     let e = ap (inOrder (a .slot .form) (a .slot .lowest)) (sym p) ∙ sym (c .before .before .in-order .ensures) in
-    c .in-order2 .ensures
+    let below : c .in-order2 .result ≡ inOrder (a .slot .form) (c .before .before .before .pattern-of .result) (a .slot .highest) =
+    c .in-order2 .ensures in
+    below
     ∙ ap (λ (n : ℕ). inOrder (a .slot .form) n (a .slot .highest)) p
     ∙ sym (not-below (a .slot) (a .raw) (e ∙ not-false _ (c .before .if1 .left)))
 
