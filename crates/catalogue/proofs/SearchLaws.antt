@@ -12,8 +12,8 @@ use lib.Dec.{eqb, ltb}
 use lib.ListN.{length, take, drop, getD, getElem?, take-append-drop}
 use lib.Seq.{drop-cons}
 use Rattle.frame.proofs.ByteLaws.{cases}
-use Rattle.catalogue.specs.Search.{firstWhere, keyIs, isFound, every, rising}
-use Rattle.catalogue.specs.Contracts.{rowsFrom}
+use Rattle.catalogue.specs.Search.{firstWhere, isFound, every, rising}
+use Rattle.catalogue.specs.Contracts.{keyIs, rowsFrom}
 
 pub both : (a b : Bool) → (a && b) ≡ true → (a ≡ true) × (b ≡ true)
 both true b e = (refl, e)

@@ -13,9 +13,9 @@ use Rattle.catalogue.specs.declared.rows.PrnRow.{PrnRow}
 use Rattle.catalogue.specs.declared.rows.SlotRow.{SlotRow}
 use Rattle.catalogue.specs.Rows.{prn, slot, inOrder, keyFits, prnFits, slotFits, prnSized, slotSized}
 use Rattle.catalogue.specs.Tables.{prnRows, slotRows}
-use Rattle.catalogue.specs.Search.{firstWhere, keyIs, every, rising}
+use Rattle.catalogue.specs.Search.{firstWhere, every, rising}
 use Rattle.catalogue.specs.Sae.{prnIs, slotIs, saePrn, saeSlot, packed, prnKey, slotKey, tablesHold}
-use Rattle.catalogue.specs.Contracts.{prnAt, prnsIn, PrnPart, slotAt, slotsIn, SlotPart}
+use Rattle.catalogue.specs.Contracts.{keyIs, prnAt, prnsIn, PrnPart, slotAt, slotsIn, SlotPart}
 use Rattle.frame.proofs.ByteLaws.{cases}
 use Rattle.catalogue.proofs.RowLaws.{slot-ranges, SlotSizes, slot-sizes}
 use Rattle.catalogue.proofs.SearchLaws.{both, found-is, none-found, first-same, every-is, in-part, row-at, row-past, row-keys, by-key}

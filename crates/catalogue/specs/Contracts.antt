@@ -13,7 +13,7 @@ use Rattle.catalogue.specs.declared.supplement.RecordFound.{RecordFound}
 use Rattle.catalogue.specs.declared.supplement.RecordFound.the-variants.{Missing, At}
 use Rattle.catalogue.specs.Rows.{prn, slot}
 use Rattle.catalogue.specs.Tables.{slotRows}
-use Rattle.catalogue.specs.Search.{firstWhere, keyIs, rising}
+use Rattle.catalogue.specs.Search.{firstWhere, rising}
 use Rattle.catalogue.specs.Sae.{prnIs, saePrn, slotKey}
 use Rattle.catalogue.specs.Record.{recordSize, kindOf, keyOf, two}
 
@@ -29,6 +29,10 @@ recordAt s (At a e) = some (take (e - a) (drop a s))
 abbrev pub Spanned : List ℕ → RecordFound → Type 0
 Spanned s Missing = Unit {0}
 Spanned s (At a e) = (a ≤ e) × (e ≤ length s)
+
+-- A number is the key that is sought.
+abbrev pub keyIs : ℕ → ℕ → Bool
+keyIs key k = eqb k key
 
 -- As many rows as are asked for, from a number on.
 unfoldable pub rowsFrom : {A : Type 0} → (ℕ → A) → ℕ → ℕ → List A

@@ -3,16 +3,12 @@ use Prim.Native.Nat.{ℕ}
 use mathlib.Core.Bool.{Bool, true, false, cond, _&&_}
 use mathlib.Core.List.{List, [], _∷_}
 use mathlib.Core.Option.{Option, none, some}
-use lib.Dec.{eqb, ltb}
+use lib.Dec.{ltb}
 
 -- The first element for which a test holds.
 unfoldable pub firstWhere : {A : Type 0} → (A → Bool) → List A → Option A
 firstWhere p [] = none
 firstWhere p (a ∷ l) = cond (p a) (some a) (firstWhere p l)
-
--- A number is the key that is sought.
-abbrev pub keyIs : ℕ → ℕ → Bool
-keyIs key k = eqb k key
 
 -- Whether a search found something.
 unfoldable pub isFound : {A : Type 0} → Option A → Bool

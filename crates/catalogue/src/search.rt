@@ -2,7 +2,8 @@
 ghost use mathlib.Core.Path.{_≡_};
 ghost use mathlib.Core.Bool.{true};
 ghost use lib.ListN.{getElem?};
-ghost use Rattle.catalogue.specs.Search.{firstWhere, keyIs, rising};
+ghost use Rattle.catalogue.specs.Search.{firstWhere, rising};
+ghost use Rattle.catalogue.specs.Contracts.{keyIs};
 
 // The place of a key, or the count of keys if it is not there.
 pub(crate) fn place_of(keys: &[u32], key: u32) -> usize
