@@ -4,7 +4,7 @@ BENCH := build/bench
 DECODER_SOURCES := $(wildcard bench/decoder_*.c)
 DECODER_OBJECTS := $(DECODER_SOURCES:bench/%.c=$(BENCH)/%.o)
 BENCH_OBJECTS := $(patsubst bench/%.c,$(BENCH)/%.o,$(wildcard bench/*.c))
-BENCH_CFLAGS := $(CFLAGS) -Ibench -I$(BENCH)
+BENCH_CFLAGS := $(CFLAGS) -Ibench -I$(BENCH) -Ihost
 
 SIZE_OF = "$$(size -t $(1) | awk 'END { print $$4 }')"
 
@@ -19,7 +19,7 @@ $(BENCH)/sae_rows.h: crates/table_rows/stdout
 	  sed -n '/^S /{s///;s/ /, 0x/g;s/.*/    {0x&},/;p;}' $<; \
 	  echo '};'; } > $@
 
-$(BENCH)/%.o: bench/%.c $(wildcard bench/*.h) include/rakhubole.h $(BENCH)/sae_rows.h
+$(BENCH)/%.o: bench/%.c $(wildcard bench/*.h) host/format.h include/rakhubole.h $(BENCH)/sae_rows.h
 	$(CC) $(BENCH_CFLAGS) -c $< -o $@
 
 # Bound at the start, so that no lookup of a name counts as part of a call.

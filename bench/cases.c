@@ -1,17 +1,15 @@
 #include "cases.h"
 
+#include "format.h"
 #include "rakhubole.h"
 
 #include <string.h>
 
-#define MOST_SUPPLEMENT 16384
-#define PRN_LENGTH 7
-#define UNM 1
 /* Items of eight bits that a frame of twelve bytes holds behind its selector. */
 #define ITEMS 7
 
 struct supplement {
-    uint8_t bytes[MOST_SUPPLEMENT];
+    uint8_t bytes[SUPPLEMENT_MOST];
     size_t length;
 };
 
@@ -19,7 +17,7 @@ static uint8_t output[RAKHUBOLE_ROWS_MOST];
 
 /* Header 48 6B 10, selector 41; the check bytes are put when the cases are made. */
 static uint8_t short_frame[7] = {0x48, 0x6B, 0x10, 0x41, 0x65, 0x80};
-static uint8_t full_frame[12] = {0x48, 0x6B, 0x10, 0x41, 1, 2, 3, 4, 5, 6, 7};
+static uint8_t full_frame[FRAME_MOST] = {0x48, 0x6B, 0x10, 0x41, 1, 2, 3, 4, 5, 6, 7};
 
 static void put(struct supplement *supplement, uint32_t number, size_t bytes)
 {
@@ -30,17 +28,17 @@ static void put(struct supplement *supplement, uint32_t number, size_t bytes)
 /* The layout of both frames. */
 static void put_layout(struct supplement *supplement, const uint16_t *prns, size_t count)
 {
-    put(supplement, 3, 1);
+    put(supplement, RECORD_LAYOUT, 1);
     put(supplement, 0x086B0141, 4);
     put(supplement, (uint32_t)count, 1);
-    for (size_t i = 0; i < 16; i++)
+    for (size_t i = 0; i < LAYOUT_PRNS; i++)
         put(supplement, i < count ? prns[i] : 0, 2);
 }
 
 static void put_prn(struct supplement *supplement, uint16_t prn, uint8_t form, uint8_t width,
                     uint16_t slot)
 {
-    put(supplement, 2, 1);
+    put(supplement, RECORD_PRN, 1);
     put(supplement, prn, 2);
     put(supplement, form, 1);
     put(supplement, width, 1);
@@ -50,7 +48,7 @@ static void put_prn(struct supplement *supplement, uint16_t prn, uint8_t form, u
 /* N / 2 - 40, from 0 to 255. */
 static void put_slot(struct supplement *supplement, uint8_t form, uint8_t width, uint16_t number)
 {
-    put(supplement, 1, 1);
+    put(supplement, RECORD_SLOT, 1);
     put(supplement, form, 1);
     put(supplement, width, 1);
     put(supplement, number, 2);
@@ -79,16 +77,16 @@ static size_t item_place(size_t i, size_t count)
 static struct run prn_records(struct supplement *supplement, size_t count)
 {
     uint16_t prns[ITEMS], prn = 0;
-    while (supplement->length < count * PRN_LENGTH) {
+    while (supplement->length < count * PRN_SIZE) {
         prn = (uint16_t)(prn + 40503);
         size_t before = supplement->length;
-        put_prn(supplement, prn, UNM, 8, 101);
-        if (decoder_calls.check(supplement->bytes + before, PRN_LENGTH) != 0)
+        put_prn(supplement, prn, FORM_UNM, 8, 101);
+        if (decoder_calls.check(supplement->bytes + before, PRN_SIZE) != 0)
             supplement->length = before;
     }
     for (size_t i = 0; i < ITEMS; i++) {
-        const uint8_t *record = supplement->bytes + PRN_LENGTH * item_place(i, count);
-        prns[i] = (uint16_t)(record[1] << 8 | record[2]);
+        const uint8_t *record = supplement->bytes + PRN_SIZE * item_place(i, count);
+        prns[i] = (uint16_t)(record[PRN_NUMBER] << 8 | record[PRN_NUMBER + 1]);
     }
     put_layout(supplement, prns, ITEMS);
     return (struct run){supplement->bytes, supplement->length};
@@ -101,11 +99,12 @@ static struct run slot_records(struct supplement *supplement, size_t count)
 {
     uint16_t prns[ITEMS];
     for (size_t i = 0; i < count; i++)
-        put_slot(supplement, UNM, (uint8_t)(8 + 8 * (i % 4)), (uint16_t)(1000 + i * 5003 % 4096));
+        put_slot(supplement, FORM_UNM, (uint8_t)(8 + 8 * (i % 4)),
+                 (uint16_t)(1000 + i * 5003 % 4096));
     for (size_t i = 0; i < ITEMS; i++) {
         size_t place = item_place(i, count) / 4 * 4;
         prns[i] = (uint16_t)(0x4000 + i);
-        put_prn(supplement, prns[i], UNM, 8, (uint16_t)(1000 + place * 5003 % 4096));
+        put_prn(supplement, prns[i], FORM_UNM, 8, (uint16_t)(1000 + place * 5003 % 4096));
     }
     put_layout(supplement, prns, ITEMS);
     return (struct run){supplement->bytes, supplement->length};

@@ -5,7 +5,6 @@
 
 #include <string.h>
 
-#define MOST_FRAME_BYTES 12
 #define UNASSIGNED 4
 
 /* The response kind of each message type KYZZ, by document 000's table. */
@@ -31,7 +30,7 @@ static bool ends_in_check_byte(const uint8_t *run, size_t length)
 
 static size_t header_length_of(uint8_t first_byte)
 {
-    return first_byte & 0x10 ? 1 : 3;
+    return first_byte & BIT_H ? 1 : 3;
 }
 
 /* Whether a response of that kind has the right count; `checks` is 1 where
@@ -49,13 +48,13 @@ static bool response_count_fits(unsigned kind, size_t length, size_t checks)
 unsigned read_frame(const uint8_t *first, size_t first_length, const uint8_t *response,
                     size_t response_length, struct frame *frame)
 {
-    if (first_length > MOST_FRAME_BYTES || response_length > MOST_FRAME_BYTES - first_length)
+    if (first_length > FRAME_MOST || response_length > FRAME_MOST - first_length)
         return RAKHUBOLE_OVER_TWELVE_BYTES;
     if (first_length == 0 || first_length < header_length_of(first[0]) + 1)
         return RAKHUBOLE_FIRST_RUN_SHORT;
     if (!ends_in_check_byte(first, first_length))
         return RAKHUBOLE_CHECK_BYTE_WRONG;
-    unsigned kind = response_kinds[first[0] & 0x0F];
+    unsigned kind = response_kinds[first[0] & TYPE_BITS];
     if (kind == UNASSIGNED)
         return RAKHUBOLE_TYPE_UNASSIGNED;
     if (!response_count_fits(kind, response_length, 1))
@@ -90,14 +89,14 @@ static uint8_t *put_run(uint8_t *out, const uint8_t *run, size_t length)
     return out + length;
 }
 
-/* The length of header, data, response and check bytes together, or 13 for
- * anything over twelve. */
+/* The length of header, data, response and check bytes together, or one more
+ * than a frame has for anything over that. */
 static size_t frame_length(size_t header, size_t data, size_t response, unsigned kind)
 {
-    size_t rest = MOST_FRAME_BYTES - header - (kind == 3 ? 2 : 1);
+    size_t rest = FRAME_MOST - header - (kind == 3 ? 2 : 1);
     if (data > rest || response > rest - data)
-        return MOST_FRAME_BYTES + 1;
-    return MOST_FRAME_BYTES - rest + data + response;
+        return FRAME_MOST + 1;
+    return FRAME_MOST - rest + data + response;
 }
 
 uint64_t decoder_write(const uint8_t *header, size_t header_length, const uint8_t *data,
@@ -106,13 +105,13 @@ uint64_t decoder_write(const uint8_t *header, size_t header_length, const uint8_
 {
     if (header_length == 0 || header_length != header_length_of(header[0]))
         return RAKHUBOLE_HEADER_LENGTH_WRONG;
-    unsigned kind = response_kinds[header[0] & 0x0F];
+    unsigned kind = response_kinds[header[0] & TYPE_BITS];
     if (kind == UNASSIGNED)
         return RAKHUBOLE_TYPE_UNASSIGNED;
     if (!response_count_fits(kind, response_length, 0))
         return RAKHUBOLE_RESPONSE_COUNT_WRONG;
     size_t length = frame_length(header_length, data_length, response_length, kind);
-    if (length > MOST_FRAME_BYTES)
+    if (length > FRAME_MOST)
         return RAKHUBOLE_OVER_TWELVE_BYTES;
     if (out_length < length)
         return RAKHUBOLE_OUT_TOO_SHORT;

@@ -2,13 +2,12 @@
 #ifndef DECODER_PARTS_H
 #define DECODER_PARTS_H
 
+#include "format.h"
 #include "rows.h"
 
 #include <stdbool.h>
 #include <stddef.h>
 #include <stdint.h>
-
-enum form { UNM = 1, SNM, SED, BMP, ASC, BCD, BMM, SFP, PKT };
 
 struct frame {
     const uint8_t *header;

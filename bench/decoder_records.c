@@ -6,9 +6,6 @@
 
 #include <string.h>
 
-#define MOST_SUPPLEMENT_BYTES 16384
-#define MOST_ITEMS 16
-
 /* ---- The SAE tables ---- */
 
 #define COUNT(array) (sizeof(array) / sizeof((array)[0]))
@@ -51,25 +48,24 @@ static const struct slot_row *find_sae_slot(uint32_t key)
 
 /* ---- The supplement ---- */
 
-enum record_kind { SLOT_RECORD = 1, PRN_RECORD, LAYOUT_RECORD };
-
 /* Bytes of a record, kind byte included; each is longer than a key. */
 static size_t record_length(uint8_t kind)
 {
     switch (kind) {
-    case SLOT_RECORD: return 21;
-    case PRN_RECORD: return 7;
-    default: return 38;
+    case RECORD_SLOT: return SLOT_SIZE;
+    case RECORD_PRN: return PRN_SIZE;
+    default: return LAYOUT_SIZE;
     }
 }
 
+/* A SLOT's key and a layout's are equally long. */
 static bool same_key(const uint8_t *record, const uint8_t *key)
 {
     if (record[0] != key[0])
         return false;
-    if (record[0] == PRN_RECORD)
-        return memcmp(record + 1, key + 1, 2) == 0;
-    return memcmp(record + 1, key + 1, 4) == 0;
+    if (record[0] == RECORD_PRN)
+        return memcmp(record + 1, key + 1, PRN_KEY_SIZE - 1) == 0;
+    return memcmp(record + 1, key + 1, SLOT_KEY_SIZE - 1) == 0;
 }
 
 /* The first of those whole records that has that kind and key, or NULL. */
@@ -83,23 +79,24 @@ static const uint8_t *find_record(const uint8_t *records, size_t length, const u
 
 static bool form_and_width_fit(uint8_t form, uint8_t width)
 {
-    return form >= UNM && form <= PKT && width >= 1 && width <= 64;
+    return form >= FORM_UNM && form <= FORM_LAST && width >= 1 && width <= WIDTH_MOST;
 }
 
 static bool limits_in_order(uint8_t form, uint32_t lowest, uint32_t highest)
 {
-    return form == SNM ? as_signed(lowest) <= as_signed(highest) : lowest <= highest;
+    return form == FORM_SNM ? as_signed(lowest) <= as_signed(highest) : lowest <= highest;
 }
 
 static bool layout_fits(const uint8_t *record)
 {
-    uint8_t first_byte = record[1], target = record[2];
-    uint8_t present = record[3], selector = record[4], count = record[5];
-    if (first_byte & 0x10 ? target != 0 : first_byte >> 5 != 0)
+    uint8_t first_byte = record[LAYOUT_FIRST_BYTE], target = record[LAYOUT_TARGET];
+    uint8_t present = record[LAYOUT_HAS_SELECTOR], selector = record[LAYOUT_SELECTOR];
+    uint8_t count = record[LAYOUT_COUNT];
+    if (first_byte & BIT_H ? target != 0 : (first_byte & PRIORITY_BITS) != 0)
         return false;
-    if (present > 1 || (present == 0 && selector != 0) || count > MOST_ITEMS)
+    if (present > 1 || (present == 0 && selector != 0) || count > LAYOUT_PRNS)
         return false;
-    for (size_t i = 6 + 2 * (size_t)count; i < record_length(LAYOUT_RECORD); i++)
+    for (size_t i = LAYOUT_PRN_LIST + 2 * (size_t)count; i < LAYOUT_SIZE; i++)
         if (record[i] != 0)
             return false;
     return true;
@@ -108,10 +105,12 @@ static bool layout_fits(const uint8_t *record)
 static bool fields_fit(const uint8_t *record)
 {
     switch (record[0]) {
-    case SLOT_RECORD:
-        return form_and_width_fit(record[1], record[2]) && number_16(record + 7) >= 1 &&
-               limits_in_order(record[1], number_32(record + 13), number_32(record + 17));
-    case PRN_RECORD: return form_and_width_fit(record[3], record[4]);
+    case RECORD_SLOT:
+        return form_and_width_fit(record[SLOT_FORM], record[SLOT_WIDTH]) &&
+               number_16(record + SLOT_DIVISOR) >= 1 &&
+               limits_in_order(record[SLOT_FORM], number_32(record + SLOT_LOWEST),
+                               number_32(record + SLOT_HIGHEST));
+    case RECORD_PRN: return form_and_width_fit(record[PRN_FORM], record[PRN_WIDTH]);
     default: return layout_fits(record);
     }
 }
@@ -119,8 +118,8 @@ static bool fields_fit(const uint8_t *record)
 static bool key_in_sae(const uint8_t *record)
 {
     switch (record[0]) {
-    case SLOT_RECORD: return find_sae_slot(number_32(record + 1)) != NULL;
-    case PRN_RECORD: return find_sae_prn(number_16(record + 1)) != NULL;
+    case RECORD_SLOT: return find_sae_slot(number_32(record + SLOT_FORM)) != NULL;
+    case RECORD_PRN: return find_sae_prn(number_16(record + PRN_NUMBER)) != NULL;
     default: return false;
     }
 }
@@ -129,7 +128,7 @@ static bool key_in_sae(const uint8_t *record)
 static unsigned record_fault(const uint8_t *supplement, size_t length, size_t place)
 {
     const uint8_t *record = supplement + place;
-    if (record[0] < SLOT_RECORD || record[0] > LAYOUT_RECORD)
+    if (record[0] < RECORD_SLOT || record[0] > RECORD_LAYOUT)
         return RAKHUBOLE_RECORD_KIND_UNKNOWN;
     if (length - place < record_length(record[0]))
         return RAKHUBOLE_RECORD_CUT;
@@ -144,7 +143,7 @@ static unsigned record_fault(const uint8_t *supplement, size_t length, size_t pl
 
 uint64_t decoder_check(const uint8_t *supplement, size_t supplement_length)
 {
-    if (supplement_length > MOST_SUPPLEMENT_BYTES)
+    if (supplement_length > SUPPLEMENT_MOST)
         return RAKHUBOLE_SUPPLEMENT_TOO_LONG;
     size_t place = 0;
     while (place < supplement_length) {
@@ -165,14 +164,14 @@ bool find_prn(const struct supplement *supplement, uint16_t prn, struct prn_row 
         *row = *sae;
         return true;
     }
-    const uint8_t key[3] = {PRN_RECORD, (uint8_t)(prn >> 8), (uint8_t)prn};
+    const uint8_t key[PRN_KEY_SIZE] = {RECORD_PRN, (uint8_t)(prn >> 8), (uint8_t)prn};
     const uint8_t *record = find_record(supplement->records, supplement->length, key);
     if (!record)
         return false;
     row->prn = prn;
-    row->form = record[3];
-    row->width = record[4];
-    row->number = number_16(record + 5);
+    row->form = record[PRN_FORM];
+    row->width = record[PRN_WIDTH];
+    row->number = number_16(record + PRN_SLOT_NUMBER);
     return true;
 }
 
@@ -184,28 +183,28 @@ bool find_slot(const struct supplement *supplement, const struct prn_row *prn,
         *slot = *sae;
         return true;
     }
-    const uint8_t key[5] = {SLOT_RECORD, prn->form, prn->width, (uint8_t)(prn->number >> 8),
-                            (uint8_t)prn->number};
+    const uint8_t key[SLOT_KEY_SIZE] = {RECORD_SLOT, prn->form, prn->width,
+                                        (uint8_t)(prn->number >> 8), (uint8_t)prn->number};
     const uint8_t *record = find_record(supplement->records, supplement->length, key);
     if (!record)
         return false;
     slot->form = prn->form;
     slot->width = prn->width;
     slot->number = prn->number;
-    slot->multiplier = number_16(record + 5);
-    slot->divisor = number_16(record + 7);
-    slot->offset = (int32_t)as_signed(number_32(record + 9));
-    slot->lowest = number_32(record + 13);
-    slot->highest = number_32(record + 17);
+    slot->multiplier = number_16(record + SLOT_MULTIPLIER);
+    slot->divisor = number_16(record + SLOT_DIVISOR);
+    slot->offset = (int32_t)as_signed(number_32(record + SLOT_OFFSET));
+    slot->lowest = number_32(record + SLOT_LOWEST);
+    slot->highest = number_32(record + SLOT_HIGHEST);
     return true;
 }
 
 const uint8_t *find_layout(const struct supplement *supplement, const struct frame *frame)
 {
     bool one_byte = frame->header_length == 1;
-    const uint8_t key[5] = {
-        LAYOUT_RECORD,
-        one_byte ? frame->header[0] : frame->header[0] & 0x1F,
+    const uint8_t key[LAYOUT_KEY_SIZE] = {
+        RECORD_LAYOUT,
+        one_byte ? frame->header[0] : (uint8_t)(frame->header[0] & ~PRIORITY_BITS),
         one_byte ? 0 : frame->header[1],
         frame->data_length > 0,
         frame->data_length > 0 ? frame->data[0] : 0,

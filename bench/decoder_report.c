@@ -5,8 +5,6 @@
 
 #include <string.h>
 
-#define MOST_SHOWN_BITS 32
-
 struct report {
     const struct supplement *supplement;
     const uint8_t *data; /* after the selector */
@@ -29,20 +27,20 @@ static void put_row(struct report *report, uint8_t kind, uint64_t body, size_t b
 
 static void put_code(struct report *report, uint8_t kind, uint32_t code)
 {
-    put_row(report, kind, code, 4);
+    put_row(report, kind, code, CODE_BODY);
     if (kind == RAKHUBOLE_ROW_INVALID)
         report->flagged = true;
 }
 
 static void put_unknown(struct report *report, uint8_t number)
 {
-    put_row(report, RAKHUBOLE_ROW_UNKNOWN, number, 1);
+    put_row(report, RAKHUBOLE_ROW_UNKNOWN, number, OTHER_BODY);
     report->unknown = true;
 }
 
 static void put_short(struct report *report)
 {
-    put_row(report, RAKHUBOLE_ROW_SHORT, 0, 0);
+    put_row(report, RAKHUBOLE_ROW_SHORT, 0, SHORT_BODY);
     report->flagged = true;
 }
 
@@ -51,7 +49,7 @@ static void put_number(struct report *report, const struct slot_row *slot, int64
     double value = (double)(number * slot->multiplier + slot->offset) / (double)slot->divisor;
     uint64_t bits;
     memcpy(&bits, &value, sizeof bits);
-    put_row(report, RAKHUBOLE_ROW_NUMBER, bits, 8);
+    put_row(report, RAKHUBOLE_ROW_NUMBER, bits, NUMBER_BODY);
 }
 
 /* The bits from a place on, at most 32 of them, zeros before them. */
@@ -107,21 +105,21 @@ static void put_item(struct report *report, const struct slot_row *slot, uint32_
 {
     bool inside = raw >= slot->lowest && raw <= slot->highest;
     switch (slot->form) {
-    case UNM:
+    case FORM_UNM:
         if (inside)
             put_number(report, slot, raw);
         else
             put_code(report, RAKHUBOLE_ROW_INVALID, raw);
         break;
-    case SNM: put_signed_item(report, slot, raw); break;
-    case SED:
+    case FORM_SNM: put_signed_item(report, slot, raw); break;
+    case FORM_SED:
         if (inside)
             put_code(report, RAKHUBOLE_ROW_STATE, raw);
         else
             put_unknown(report, RAKHUBOLE_UNKNOWN_STATE);
         break;
-    case BMP: put_code(report, RAKHUBOLE_ROW_BITS, raw); break;
-    case ASC: put_pieces(report, RAKHUBOLE_ROW_TEXT, slot, raw, 8, 0x20, 0x7E); break;
+    case FORM_BMP: put_code(report, RAKHUBOLE_ROW_BITS, raw); break;
+    case FORM_ASC: put_pieces(report, RAKHUBOLE_ROW_TEXT, slot, raw, 8, 0x20, 0x7E); break;
     default: put_pieces(report, RAKHUBOLE_ROW_DIGITS, slot, raw, 4, 0, 9); break;
     }
 }
@@ -150,9 +148,9 @@ static void report_item(struct report *report, uint16_t prn)
         put_short(report);
     } else if (!find_slot(report->supplement, &row, &slot)) {
         put_unknown(report, RAKHUBOLE_UNKNOWN_SLOT);
-    } else if (row.form > BCD) {
+    } else if (row.form > FORM_BCD) {
         put_unknown(report, RAKHUBOLE_UNKNOWN_FORM);
-    } else if (row.width > MOST_SHOWN_BITS) {
+    } else if (row.width > WIDTH_SHOWN_MOST) {
         put_unknown(report, RAKHUBOLE_UNKNOWN_WIDTH);
     } else {
         put_item(report, &slot, cut_bits(report->data, start, row.width));
@@ -168,7 +166,7 @@ static void report_remainder(struct report *report, bool has_layout)
     } else if (report->is_short) {
         put_short(report);
     } else {
-        put_row(report, RAKHUBOLE_ROW_LEFT, report->bits - report->place, 1);
+        put_row(report, RAKHUBOLE_ROW_LEFT, report->bits - report->place, OTHER_BODY);
         if (report->place < report->bits)
             report->flagged = true;
     }
@@ -177,17 +175,17 @@ static void report_remainder(struct report *report, bool has_layout)
 static void make_report(struct report *report, const struct frame *frame)
 {
     const uint8_t *layout = find_layout(report->supplement, frame);
-    for (size_t i = 0; layout && i < layout[5]; i++)
-        report_item(report, number_16(layout + 6 + 2 * i));
+    for (size_t i = 0; layout && i < layout[LAYOUT_COUNT]; i++)
+        report_item(report, number_16(layout + LAYOUT_PRN_LIST + 2 * i));
     report_remainder(report, layout != NULL);
     if (frame->kind == 3)
         put_unknown(report, RAKHUBOLE_UNKNOWN_RESPONSE);
     else
-        put_row(report, RAKHUBOLE_ROW_ANSWERED, frame->kind, 1);
+        put_row(report, RAKHUBOLE_ROW_ANSWERED, frame->kind, OTHER_BODY);
     unsigned verdict = report->flagged   ? RAKHUBOLE_FLAGGED
                        : report->unknown ? RAKHUBOLE_VERDICT_UNKNOWN
                                          : RAKHUBOLE_CLEAR;
-    put_row(report, RAKHUBOLE_ROW_VERDICT, verdict, 1);
+    put_row(report, RAKHUBOLE_ROW_VERDICT, verdict, OTHER_BODY);
 }
 
 uint64_t decoder_report(const uint8_t *supplement, size_t supplement_length, const uint8_t *first,

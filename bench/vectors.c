@@ -1,10 +1,13 @@
 #include "vectors.h"
 
+#include "format.h"
+
 #include <stdio.h>
 #include <stdlib.h>
 #include <string.h>
 
-#define MOST_BYTES 16400
+/* Some vectors are over the limit of a supplement. */
+#define MOST_BYTES (SUPPLEMENT_MOST + 16)
 /* The longest line: three runs, of which one is a supplement. */
 #define MOST_LINE (2 * MOST_BYTES + 200)
 

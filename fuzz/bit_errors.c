@@ -2,6 +2,7 @@
  * either refuses such a frame as the second program does, or gives the same
  * report as the second program; anything else ends with status 1. */
 #include "calls.h"
+#include "format.h"
 #include "judge.h"
 #include "rakhubole.h"
 
@@ -9,16 +10,14 @@
 #include <stdio.h>
 #include <string.h>
 
-#define MOST_FRAME 12
 /* Three priorities, two forms, sixteen types. */
 #define MOST_FIRST_BYTES 96
-#define LAYOUT_LENGTH 38
 #define TARGET 0x6B
 #define SOURCE 0x10
 #define SELECTOR 0x41
 
 /* A layout for each first byte of the sample that needs one of its own. */
-static uint8_t supplement[MOST_FIRST_BYTES * LAYOUT_LENGTH];
+static uint8_t supplement[MOST_FIRST_BYTES * LAYOUT_SIZE];
 static size_t supplement_length;
 
 /* By response kind. */
@@ -32,7 +31,7 @@ static unsigned long verdicts[4];
 static unsigned long differences;
 
 struct frame {
-    uint8_t bytes[MOST_FRAME];
+    uint8_t bytes[FRAME_MOST];
     size_t first_length;
     size_t length;
 };
@@ -40,14 +39,18 @@ struct frame {
 /* Two items of eight bits, so that frames of three data bytes are Clear. */
 static void add_layout(uint8_t first_byte)
 {
-    static const uint8_t rest[] = {1, SELECTOR, 2, 0x10, 0x25, 0x10, 0x0B};
+    static const uint8_t prns[] = {0x10, 0x25, 0x10, 0x0B};
+    bool one_byte = first_byte & BIT_H;
     uint8_t *layout = supplement + supplement_length;
-    layout[0] = 3;
-    layout[1] = first_byte & 0x10 ? first_byte : first_byte & 0x1F;
-    layout[2] = first_byte & 0x10 ? 0 : TARGET;
-    memcpy(layout + 3, rest, sizeof rest);
-    if (RAKHUBOLE_REFUSAL(judge_calls.check(supplement, supplement_length + LAYOUT_LENGTH)) == 0)
-        supplement_length += LAYOUT_LENGTH;
+    layout[0] = RECORD_LAYOUT;
+    layout[LAYOUT_FIRST_BYTE] = one_byte ? first_byte : (uint8_t)(first_byte & ~PRIORITY_BITS);
+    layout[LAYOUT_TARGET] = one_byte ? 0 : TARGET;
+    layout[LAYOUT_HAS_SELECTOR] = 1;
+    layout[LAYOUT_SELECTOR] = SELECTOR;
+    layout[LAYOUT_COUNT] = sizeof prns / 2;
+    memcpy(layout + LAYOUT_PRN_LIST, prns, sizeof prns);
+    if (RAKHUBOLE_REFUSAL(judge_calls.check(supplement, supplement_length + LAYOUT_SIZE)) == 0)
+        supplement_length += LAYOUT_SIZE;
 }
 
 /* The report of a frame; its rows are put in `rows`. */
@@ -94,16 +97,16 @@ static void flip_each_bit(const struct frame *frame, struct counts *count)
 static void try_frame(uint8_t first_byte, size_t data_length, size_t response_length)
 {
     static uint32_t noise = 1;
-    uint8_t header[] = {first_byte, TARGET, SOURCE}, data[MOST_FRAME], response[MOST_FRAME];
+    uint8_t header[] = {first_byte, TARGET, SOURCE}, data[FRAME_MOST], response[FRAME_MOST];
     uint8_t rows[RAKHUBOLE_ROWS_MOST];
     struct frame frame;
-    for (size_t i = 0; i < MOST_FRAME; i++) {
+    for (size_t i = 0; i < FRAME_MOST; i++) {
         noise = noise * 1664525 + 1013904223;
         data[i] = i == 0 ? SELECTOR : (uint8_t)(noise >> 24);
         response[i] = (uint8_t)(noise >> 16);
     }
-    uint64_t written = judge_calls.write(header, first_byte & 0x10 ? 1 : 3, data, data_length,
-                                         response, response_length, frame.bytes, MOST_FRAME);
+    uint64_t written = judge_calls.write(header, first_byte & BIT_H ? 1 : 3, data, data_length,
+                                         response, response_length, frame.bytes, FRAME_MOST);
     if (RAKHUBOLE_REFUSAL(written) != 0)
         return;
     frame.first_length = RAKHUBOLE_WRITE_FIRST(written);
@@ -120,7 +123,8 @@ static void try_frame(uint8_t first_byte, size_t data_length, size_t response_le
 
 static bool show_counts(void)
 {
-    bool all = verdicts[1] && verdicts[2] && verdicts[3];
+    bool all = verdicts[RAKHUBOLE_CLEAR] && verdicts[RAKHUBOLE_FLAGGED] &&
+               verdicts[RAKHUBOLE_VERDICT_UNKNOWN];
     for (int kind = 0; kind < 4; kind++) {
         const struct counts *c = &counts[kind];
         printf("bit errors, response kind %d: %lu frames; bits of the first run: %lu refused, %lu "
@@ -130,7 +134,8 @@ static bool show_counts(void)
         all = all && c->frames;
     }
     printf("bit errors: verdicts of the sample Clear %lu, Flagged %lu, Unknown %lu; %lu differ\n",
-           verdicts[1], verdicts[2], verdicts[3], differences);
+           verdicts[RAKHUBOLE_CLEAR], verdicts[RAKHUBOLE_FLAGGED],
+           verdicts[RAKHUBOLE_VERDICT_UNKNOWN], differences);
     return all && differences == 0;
 }
 
@@ -145,8 +150,8 @@ int main(void)
     for (size_t i = 0; i < count; i++)
         add_layout(first_bytes[i]);
     for (size_t i = 0; i < count; i++)
-        for (size_t data = 0; data < MOST_FRAME; data++)
-            for (size_t response = 0; response < MOST_FRAME; response++)
+        for (size_t data = 0; data < FRAME_MOST; data++)
+            for (size_t response = 0; response < FRAME_MOST; response++)
                 try_frame(first_bytes[i], data, response);
     return show_counts() ? 0 : 1;
 }

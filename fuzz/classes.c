@@ -1,5 +1,6 @@
 #include "classes.h"
 
+#include "format.h"
 #include "rakhubole.h"
 
 #include <stdio.h>
@@ -7,21 +8,44 @@
 enum word { REFUSED, KIND, VERDICT, ROW, UNKNOWN, WORDS };
 static const char *const words[WORDS] = {"refused", "kind", "verdict", "row", "Unknown"};
 
-/* The numbers that the inputs of a call must reach, a bit for each. */
+/* Every refusal, kind and reason is below this. */
+#define NUMBERS 16
+/* A bit for each number from one to the other. */
+#define SPAN(low, high) ((2u << (high)) - (1u << (low)))
+#define FRAME_REFUSALS SPAN(RAKHUBOLE_OVER_TWELVE_BYTES, RAKHUBOLE_RESPONSE_CHECK_BYTE_WRONG)
+#define WRITE_REFUSALS                                                                           \
+    (1u << RAKHUBOLE_OVER_TWELVE_BYTES |                                                         \
+     SPAN(RAKHUBOLE_TYPE_UNASSIGNED, RAKHUBOLE_RESPONSE_COUNT_WRONG) |                           \
+     SPAN(RAKHUBOLE_HEADER_LENGTH_WRONG, RAKHUBOLE_OUT_TOO_SHORT))
+#define SUPPLEMENT_REFUSALS SPAN(RAKHUBOLE_SUPPLEMENT_TOO_LONG, RAKHUBOLE_KEY_IN_SAE)
+
+/* The numbers that the inputs of a call must reach. */
 static const uint16_t wanted[][WORDS] = {
-    [CALL_READ] = {[REFUSED] = 0x007E, [KIND] = 0x000F},
-    [CALL_WRITE] = {[REFUSED] = 0x01B2},
-    [CALL_CHECK] = {[REFUSED] = 0xFC00},
-    [CALL_REPORT] = {[REFUSED] = 0xFD7E, [VERDICT] = 0x000E, [ROW] = 0x07FE, [UNKNOWN] = 0x01FE},
+    [CALL_READ] = {[REFUSED] = FRAME_REFUSALS, [KIND] = SPAN(0, 3)},
+    [CALL_WRITE] = {[REFUSED] = WRITE_REFUSALS},
+    [CALL_CHECK] = {[REFUSED] = SUPPLEMENT_REFUSALS},
+    [CALL_REPORT] = {[REFUSED] = FRAME_REFUSALS | 1u << RAKHUBOLE_OUT_TOO_SHORT |
+                                 SUPPLEMENT_REFUSALS,
+                     [VERDICT] = SPAN(RAKHUBOLE_CLEAR, RAKHUBOLE_VERDICT_UNKNOWN),
+                     [ROW] = SPAN(RAKHUBOLE_ROW_NUMBER, RAKHUBOLE_ROW_ANSWERED),
+                     [UNKNOWN] = SPAN(RAKHUBOLE_UNKNOWN_PRN, RAKHUBOLE_UNKNOWN_LAYOUT)},
 };
 
 static unsigned long inputs, accepted, null_runs;
-static unsigned long counts[WORDS][16];
+static unsigned long counts[WORDS][NUMBERS];
+
+static size_t body_size(uint8_t kind)
+{
+    if (kind == RAKHUBOLE_ROW_NUMBER)
+        return NUMBER_BODY;
+    if (kind == RAKHUBOLE_ROW_SHORT)
+        return SHORT_BODY;
+    return kind <= RAKHUBOLE_ROW_INVALID ? CODE_BODY : OTHER_BODY;
+}
 
 static void count_rows(const uint8_t *out, size_t length)
 {
-    static const size_t lengths[] = {1, 9, 5, 5, 5, 5, 5, 1, 2, 2, 2, 2};
-    for (size_t at = 0; at < length; at += lengths[out[at]]) {
+    for (size_t at = 0; at < length; at += 1 + body_size(out[at])) {
         if (out[at] == RAKHUBOLE_ROW_VERDICT)
             counts[VERDICT][out[at + 1]]++;
         else
@@ -53,7 +77,7 @@ bool show_classes(enum call call)
     printf("%s: %lu inputs; accepted: %lu, with an empty run: %lu", call_names[call], inputs,
            accepted, null_runs);
     for (int word = 0; word < WORDS; word++) {
-        for (int number = 0; number < 16; number++) {
+        for (int number = 0; number < NUMBERS; number++) {
             if (!(wanted[call][word] >> number & 1))
                 continue;
             printf(", %s %d: %lu", words[word], number, counts[word][number]);

@@ -8,7 +8,7 @@ CLANG := clang
 SECONDS := 60
 
 FUZZ_SOURCES := $(addprefix fuzz/,target.c draft.c supplement.c lent.c classes.c judge.c) bench/calls.c $(DECODER_SOURCES)
-FUZZ_NEEDS := $(FUZZ_SOURCES) bench/archive.c $(wildcard fuzz/*.h bench/*.h) $(BENCH)/sae_rows.h include/rakhubole.h $(JUDGE) archive
+FUZZ_NEEDS := $(FUZZ_SOURCES) bench/archive.c $(wildcard fuzz/*.h bench/*.h) host/format.h $(BENCH)/sae_rows.h include/rakhubole.h $(JUDGE) archive
 FUZZ_CFLAGS := $(BENCH_CFLAGS) -Ifuzz -g -fno-sanitize-recover=all
 JUDGE_LIBRARIES := $(JUDGE) -lpthread -ldl -lm
 FUZZ_LIBRARIES := bench/archive.c $(ARCHIVE) $(JUDGE_LIBRARIES)

@@ -9,13 +9,18 @@ copy acceptable, it gives a second one with them, and with a step for each recor
 import pathlib
 import sys
 
+sys.path.insert(0, str(pathlib.Path(__file__).resolve().parents[1] / "tools"))
+from c_names import c_names
+
+FORMAT = c_names("host/format.h")
 MOST_SEED = 400
 MOST_LENGTH = 15                  # of a run behind a short length
 ANY_HEADER_LENGTH = 1
 SEALED = 3
 SEALED_AND_MENDED = 7
-SLOT, PRN, LAYOUT, RAW_BYTES = 1, 2, 3, 4
-RECORD_LENGTHS = {SLOT: 21, PRN: 7, LAYOUT: 38}
+RAW_BYTES = 4                     # the other steps are the kinds of records
+RECORD_SIZES = {FORMAT.RECORD_SLOT: FORMAT.SLOT_SIZE, FORMAT.RECORD_PRN: FORMAT.PRN_SIZE,
+                FORMAT.RECORD_LAYOUT: FORMAT.LAYOUT_SIZE}
 END = b"\0"
 
 
@@ -30,12 +35,19 @@ def raw_steps(run):
     return b"".join(bytes([RAW_BYTES, len(piece)]) + piece for piece in pieces) + END
 
 
+def layout_step(record):
+    count, first = min(record[FORMAT.LAYOUT_COUNT], FORMAT.LAYOUT_PRNS), FORMAT.LAYOUT_PRN_LIST
+    prns = b"".join(END + record[at:at + 2] for at in range(first, first + 2 * count, 2))
+    selector = record[FORMAT.LAYOUT_SELECTOR:FORMAT.LAYOUT_COUNT]
+    return (record[:FORMAT.LAYOUT_SELECTOR] + selector * min(record[FORMAT.LAYOUT_HAS_SELECTOR], 1)
+            + record[FORMAT.LAYOUT_COUNT:first] + prns)
+
+
 def record_step(record):
     """The step that puts this record, if its fields are in range."""
-    if record[0] == LAYOUT:
-        prns = b"".join(END + record[at:at + 2] for at in range(6, 6 + 2 * min(record[5], 16), 2))
-        return record[:4] + record[4:5] * min(record[3], 1) + record[5:6] + prns
-    form = 1 if record[0] == SLOT else 3
+    if record[0] == FORMAT.RECORD_LAYOUT:
+        return layout_step(record)
+    form = FORMAT.SLOT_FORM if record[0] == FORMAT.RECORD_SLOT else FORMAT.PRN_FORM
     counted_from_0 = bytes([record[form] - 1 & 255, record[form + 1] - 1 & 255])
     return record[:form] + counted_from_0 + record[form + 2:]
 
@@ -43,7 +55,7 @@ def record_step(record):
 def record_steps(run):
     steps, at = b"", 0
     while at < len(run):
-        length = RECORD_LENGTHS.get(run[at], 1)
+        length = RECORD_SIZES.get(run[at], 1)
         if length == 1 or at + length > len(run):
             return steps + raw_steps(run[at:])
         steps += record_step(run[at:at + length])

@@ -2,6 +2,7 @@
  * byte of which the low three bits say what it adds or damages. */
 #include "draft.h"
 
+#include "format.h"
 #include "judge.h"
 #include "rakhubole.h"
 #include "rows.h"
@@ -9,12 +10,20 @@
 
 #include <string.h>
 
-#define MOST_SUPPLEMENT 16384
 /* Records that are taken out one by one; behind the next fault all is. */
 #define MOST_FAULTS 10
 #define COUNT(array) (sizeof(array) / sizeof((array)[0]))
 
-enum step { END, SLOT, PRN, LAYOUT, RAW_BYTES, PRN_RUN, SLOT_RUN, DAMAGE };
+enum step {
+    END,
+    SLOT = RECORD_SLOT,
+    PRN = RECORD_PRN,
+    LAYOUT = RECORD_LAYOUT,
+    RAW_BYTES,
+    PRN_RUN,
+    SLOT_RUN,
+    DAMAGE
+};
 
 /* Where a key comes from: bits 3 and 4 of a step. Where the SLOT of a PRN
  * comes from: bits 5 and 6. */
@@ -26,8 +35,6 @@ enum origin { FROM_FEED, FROM_RECORD, FROM_SAE, FROM_FEED_TOO };
 /* Of a SLOT: the key is one that a PRN names. */
 #define WANTED 0x40
 
-#define SNM 2
-
 struct slot_key {
     uint8_t form;
     uint8_t width;
@@ -35,7 +42,9 @@ struct slot_key {
 };
 
 /* By kind, which is the step that puts one; 1 for an unknown kind. */
-static const size_t record_lengths[] = {1, 21, 7, 38};
+static const size_t record_lengths[] = {
+    1, [RECORD_SLOT] = SLOT_SIZE, [RECORD_PRN] = PRN_SIZE, [RECORD_LAYOUT] = LAYOUT_SIZE,
+};
 
 /* The bytes of the record at a place, and no more than there are. */
 static size_t record_length(const struct draft *draft, size_t place)
@@ -73,8 +82,8 @@ static uint16_t sae_prn(struct feed *feed)
 
 static struct slot_key key_from_feed(struct feed *feed)
 {
-    uint8_t form = (uint8_t)(1 + take_byte(feed) % 9);
-    uint8_t width = (uint8_t)(1 + take_byte(feed) % 64);
+    uint8_t form = (uint8_t)(1 + take_byte(feed) % FORM_LAST);
+    uint8_t width = (uint8_t)(1 + take_byte(feed) % WIDTH_MOST);
     return (struct slot_key){form, width, take_16(feed)};
 }
 
@@ -89,9 +98,11 @@ static struct slot_key slot_key(struct feed *feed, const struct draft *draft, en
         return (struct slot_key){row->form, row->width, row->number};
     }
     if (wanted && (record = some_record(feed, draft, PRN)))
-        return (struct slot_key){record[3], record[4], number_at(record + 5)};
+        return (struct slot_key){record[PRN_FORM], record[PRN_WIDTH],
+                                 number_at(record + PRN_SLOT_NUMBER)};
     if (origin == FROM_RECORD && (record = some_record(feed, draft, SLOT)))
-        return (struct slot_key){record[1], record[2], number_at(record + 3)};
+        return (struct slot_key){record[SLOT_FORM], record[SLOT_WIDTH],
+                                 number_at(record + SLOT_NUMBER)};
     return key_from_feed(feed);
 }
 
@@ -105,7 +116,7 @@ static void put_slot_key(struct draft *draft, struct slot_key key)
 /* In order, as signed for SNM. */
 static void put_limits(struct draft *draft, uint8_t form, uint32_t one, uint32_t other)
 {
-    uint32_t raised = form == SNM ? 0x80000000u : 0;
+    uint32_t raised = form == FORM_SNM ? 0x80000000u : 0;
     bool in_order = (one ^ raised) <= (other ^ raised);
     put(draft, in_order ? one : other, 4);
     put(draft, in_order ? other : one, 4);
@@ -120,7 +131,7 @@ static void put_slot(struct feed *feed, struct draft *draft, uint8_t step)
     put(draft, multiplier, 2);
     put(draft, divisor ? divisor : 1, 2);
     put(draft, take_32(feed), 4);
-    uint32_t one = key.form == SNM ? 0x80000000u : 0, other = one - 1;
+    uint32_t one = key.form == FORM_SNM ? 0x80000000u : 0, other = one - 1;
     if (!(step & WITHOUT_LIMITS)) {
         one = take_32(feed);
         other = take_32(feed);
@@ -135,7 +146,7 @@ static uint16_t prn_key(struct feed *feed, const struct draft *draft, enum origi
     if (origin == FROM_SAE)
         return sae_prn(feed);
     if (origin == FROM_RECORD && (record = some_record(feed, draft, PRN)))
-        return number_at(record + 1);
+        return number_at(record + PRN_NUMBER);
     return take_16(feed);
 }
 
@@ -152,12 +163,13 @@ static void put_layout_key(struct feed *feed, struct draft *draft, enum origin o
 {
     const uint8_t *record;
     if (origin == FROM_RECORD && (record = some_record(feed, draft, LAYOUT))) {
-        put(draft, (uint32_t)number_at(record + 1) << 16 | number_at(record + 3), 4);
+        for (size_t i = LAYOUT_FIRST_BYTE; i < LAYOUT_KEY_SIZE; i++)
+            put(draft, record[i], 1);
         return;
     }
     uint8_t first_byte = take_byte(feed), target = take_byte(feed), present = take_byte(feed) % 4;
-    bool one_byte = first_byte & 0x10;
-    put(draft, one_byte ? first_byte : first_byte & 0x1F, 1);
+    bool one_byte = first_byte & BIT_H;
+    put(draft, one_byte ? first_byte : (uint8_t)(first_byte & ~PRIORITY_BITS), 1);
     put(draft, one_byte ? 0 : target, 1);
     put(draft, present != 0, 1);
     put(draft, present != 0 ? take_byte(feed) : 0, 1);
@@ -168,9 +180,9 @@ static void put_layout(struct feed *feed, struct draft *draft, uint8_t step)
 {
     put(draft, LAYOUT, 1);
     put_layout_key(feed, draft, KEY_ORIGIN(step));
-    uint8_t count = take_byte(feed) % 17;
+    uint8_t count = take_byte(feed) % (LAYOUT_PRNS + 1);
     put(draft, count, 1);
-    for (uint8_t i = 0; i < 16; i++)
+    for (uint8_t i = 0; i < LAYOUT_PRNS; i++)
         put(draft, i < count ? prn_key(feed, draft, (enum origin)(take_byte(feed) & 3)) : 0, 2);
 }
 
@@ -234,8 +246,8 @@ void draft_supplement(struct feed *feed, struct draft *supplement)
 void mend(struct draft *supplement)
 {
     uint64_t answer;
-    if (supplement->length > MOST_SUPPLEMENT)
-        supplement->length = MOST_SUPPLEMENT;
+    if (supplement->length > SUPPLEMENT_MOST)
+        supplement->length = SUPPLEMENT_MOST;
     for (size_t faults = 0;
          (answer = judge_calls.check(supplement->bytes, supplement->length)) != 0; faults++) {
         size_t place = RAKHUBOLE_PLACE(answer), left = supplement->length - place;
@@ -250,14 +262,14 @@ void seek_layout(struct feed *feed, const struct draft *supplement, struct draft
     const uint8_t *layout = some_record(feed, supplement, LAYOUT);
     if (!layout)
         return;
-    bool one_byte = layout[1] & 0x10;
+    bool one_byte = layout[LAYOUT_FIRST_BYTE] & BIT_H;
     uint8_t *bytes = first->bytes;
     size_t selector = one_byte ? 1 : 3;
     if (first->length <= selector)
         return;
-    bytes[0] = one_byte ? layout[1] : layout[1] | (bytes[0] & 0xE0);
+    bytes[0] = layout[LAYOUT_FIRST_BYTE] | (one_byte ? 0 : bytes[0] & PRIORITY_BITS);
     if (!one_byte)
-        bytes[1] = layout[2];
-    if (layout[3])
-        bytes[selector] = layout[4];
+        bytes[1] = layout[LAYOUT_TARGET];
+    if (layout[LAYOUT_HAS_SELECTOR])
+        bytes[selector] = layout[LAYOUT_SELECTOR];
 }

@@ -1,5 +1,6 @@
 /* rakhubole frame and rakhubole send: one frame read, one frame written. */
 #include "commands.h"
+#include "format.h"
 #include "hex.h"
 #include "message.h"
 #include "rakhubole.h"
@@ -97,7 +98,7 @@ int command_send(const struct arguments *arguments)
             return STATUS_USAGE;
         }
     }
-    uint8_t out[12];
+    uint8_t out[FRAME_MOST];
     uint64_t answer =
         rakhubole_j1850_write(parts[0].at, parts[0].count, parts[1].at, parts[1].count,
                               parts[2].at, parts[2].count, out, sizeof out);

@@ -157,7 +157,8 @@ static void json_reading(const struct entry *entry, const struct reading *readin
 {
     put_entry(entry);
     put_count("refusal", 0);
-    put_hex("layout_sought", reading->layout.key, sizeof reading->layout.key);
+    put_hex("layout_sought", reading->layout.start + LAYOUT_FIRST_BYTE,
+            LAYOUT_KEY_SIZE - LAYOUT_FIRST_BYTE);
     fputs(",\"items\":[", stdout);
     for (size_t i = 0; i < reading->count; i++) {
         fputs(i ? "," : "", stdout);

@@ -9,15 +9,14 @@ struct layout layout_sought(const struct supplement *supplement, const uint8_t *
                             size_t header_length, const uint8_t *data, size_t data_length)
 {
     bool is_short = header_length == 1;
-    struct layout layout = {{0}, false, 0, {0}};
-    layout.key[0] = is_short ? header[0] : (uint8_t)(header[0] & ~PRIORITY_BITS);
-    layout.key[1] = is_short ? 0 : header[1];
-    layout.key[2] = data_length > 0;
-    layout.key[3] = data_length > 0 ? data[0] : 0;
-    const uint8_t start[] = {RECORD_LAYOUT, layout.key[0], layout.key[1], layout.key[2],
-                             layout.key[3]};
+    struct layout layout = {{RECORD_LAYOUT}, false, 0, {0}};
+    uint8_t *start = layout.start;
+    start[LAYOUT_FIRST_BYTE] = is_short ? header[0] : (uint8_t)(header[0] & ~PRIORITY_BITS);
+    start[LAYOUT_TARGET] = is_short ? 0 : header[1];
+    start[LAYOUT_HAS_SELECTOR] = data_length > 0;
+    start[LAYOUT_SELECTOR] = data_length > 0 ? data[0] : 0;
     struct record record;
-    layout.is_found = record_find(supplement, start, sizeof start, &record);
+    layout.is_found = record_find(supplement, start, sizeof layout.start, &record);
     if (!layout.is_found)
         return layout;
     size_t count = record.bytes[LAYOUT_COUNT];
@@ -44,7 +43,7 @@ struct label label_of(const struct supplement *supplement, uint16_t prn)
         label.unit = *row->unit ? row->unit : NULL;
         return label;
     }
-    const uint8_t start[] = {RECORD_PRN, (uint8_t)(prn >> 8), (uint8_t)prn};
+    const uint8_t start[PRN_KEY_SIZE] = {RECORD_PRN, (uint8_t)(prn >> 8), (uint8_t)prn};
     struct record record;
     label.is_found = record_find(supplement, start, sizeof start, &record);
     if (label.is_found)

@@ -7,10 +7,10 @@
 #include "records.h"
 #include "sae_names.h"
 
-/* The key of the layout sought, as in a layout record: first byte, target,
- * selector present, selector; and the PRNs of that layout, if there is one. */
+/* How the record of the layout sought starts, up to its key's end; and the PRNs
+ * of that layout, if there is one. */
 struct layout {
-    uint8_t key[4];
+    uint8_t start[LAYOUT_KEY_SIZE];
     bool is_found;
     size_t count;
     uint16_t prns[LAYOUT_PRNS];

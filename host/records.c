@@ -18,9 +18,9 @@ size_t record_size(uint8_t kind)
 size_t record_key_size(uint8_t kind)
 {
     switch (kind) {
-    case RECORD_SLOT: return SLOT_MULTIPLIER;
-    case RECORD_PRN: return PRN_SLOT_KEY;
-    default: return LAYOUT_COUNT;
+    case RECORD_SLOT: return SLOT_KEY_SIZE;
+    case RECORD_PRN: return PRN_KEY_SIZE;
+    default: return LAYOUT_KEY_SIZE;
     }
 }
 
@@ -66,8 +66,7 @@ int32_t signed32(const uint8_t *bytes)
 
 struct slot_key slot_key_of(const struct record *record)
 {
-    const uint8_t *at =
-        record->bytes + (record->bytes[0] == RECORD_PRN ? PRN_SLOT_KEY : SLOT_KEY);
+    const uint8_t *at = record->bytes + (record->bytes[0] == RECORD_PRN ? PRN_FORM : SLOT_FORM);
     return (struct slot_key){at[0], at[1], number16(at + 2)};
 }
 
@@ -76,14 +75,14 @@ uint16_t layout_prn(const struct record *record, size_t i)
     return number16(record->bytes + LAYOUT_PRN_LIST + 2 * i);
 }
 
-void layout_key_text(const uint8_t key[4], char text[LAYOUT_KEY_SIZE])
+void layout_key_text(const uint8_t start[LAYOUT_KEY_SIZE], char text[LAYOUT_TEXT_SIZE])
 {
     char target[sizeof " FF"] = "", selector[sizeof " selector FF"] = " no selector";
-    if ((key[0] & BIT_H) == 0)
-        snprintf(target, sizeof target, " %02X", key[1]);
-    if (key[2] != 0)
-        snprintf(selector, sizeof selector, " selector %02X", key[3]);
-    snprintf(text, LAYOUT_KEY_SIZE, "header %02X%s%s", key[0], target, selector);
+    if ((start[LAYOUT_FIRST_BYTE] & BIT_H) == 0)
+        snprintf(target, sizeof target, " %02X", start[LAYOUT_TARGET]);
+    if (start[LAYOUT_HAS_SELECTOR] != 0)
+        snprintf(selector, sizeof selector, " selector %02X", start[LAYOUT_SELECTOR]);
+    snprintf(text, LAYOUT_TEXT_SIZE, "header %02X%s%s", start[LAYOUT_FIRST_BYTE], target, selector);
 }
 
 void slot_name(struct slot_key key, char name[SLOT_NAME_SIZE])

@@ -2,39 +2,11 @@
 #ifndef RECORDS_H
 #define RECORDS_H
 
+#include "format.h"
+
 #include <stdbool.h>
 #include <stddef.h>
 #include <stdint.h>
-
-enum { SUPPLEMENT_MOST = 16384 };
-
-enum { RECORD_SLOT = 1, RECORD_PRN = 2, RECORD_LAYOUT = 3 };
-
-/* Where the fields of a record stand, and its size, the kind byte counted. A
- * SLOT's key is form, width and number, in a SLOT record and in a PRN record. */
-enum {
-    SLOT_KEY = 1,
-    SLOT_MULTIPLIER = 5,
-    SLOT_DIVISOR = 7,
-    SLOT_OFFSET = 9,
-    SLOT_LOWEST = 13,
-    SLOT_HIGHEST = 17,
-    SLOT_SIZE = 21
-};
-enum { PRN_NUMBER = 1, PRN_SLOT_KEY = 3, PRN_SIZE = 7 };
-enum {
-    LAYOUT_FIRST_BYTE = 1,
-    LAYOUT_TARGET = 2,
-    LAYOUT_HAS_SELECTOR = 3,
-    LAYOUT_SELECTOR = 4,
-    LAYOUT_COUNT = 5,
-    LAYOUT_PRN_LIST = 6,
-    LAYOUT_SIZE = 38
-};
-enum { LAYOUT_PRNS = 16 };
-
-/* Bits of a frame's first byte. */
-enum { BIT_H = 0x10, PRIORITY_BITS = 0xE0 };
 
 /* There is room for a record beyond the limit, so that the library is the one
  * to refuse what is over it. */
@@ -80,10 +52,10 @@ struct slot_key slot_key_of(const struct record *record);
 /* A PRN of a layout record, counted from 0. */
 uint16_t layout_prn(const struct record *record, size_t i);
 
-/* A layout's key, first byte to selector, as a supplement's text has it:
+/* The key of a layout record that starts so, as a supplement's text has it:
  * "header 08 6B selector 41". */
-enum { LAYOUT_KEY_SIZE = 32 };
-void layout_key_text(const uint8_t key[4], char text[LAYOUT_KEY_SIZE]);
+enum { LAYOUT_TEXT_SIZE = 32 };
+void layout_key_text(const uint8_t start[LAYOUT_KEY_SIZE], char text[LAYOUT_TEXT_SIZE]);
 
 /* The name as document 003 prints it, "UNM-08-101". */
 enum { SLOT_NAME_SIZE = 20 };

@@ -51,7 +51,7 @@ static const char *form_fault(struct slot_key key)
 {
     if (!form_name(key.form))
         return "the form is not 1 to 9";
-    return key.width < 1 || key.width > 64 ? "the width is not 1 to 64 bits" : NULL;
+    return key.width < 1 || key.width > WIDTH_MOST ? "the width is not 1 to 64 bits" : NULL;
 }
 
 static const char *slot_fault(const struct record *record)

@@ -49,8 +49,8 @@ static void put_label(const struct label *label)
 static void put_layout(const struct supplement *supplement, const struct record *record)
 {
     size_t count = record->bytes[LAYOUT_COUNT];
-    char key[LAYOUT_KEY_SIZE];
-    layout_key_text(record->bytes + LAYOUT_FIRST_BYTE, key);
+    char key[LAYOUT_TEXT_SIZE];
+    layout_key_text(record->bytes, key);
     printf("layout %s%s", key, count ? " prns" : " no prns");
     for (size_t i = 0; i < count; i++)
         printf(" %04X", layout_prn(record, i));

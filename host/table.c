@@ -153,8 +153,8 @@ static void put_items(const struct reading *reading)
 static void put_remainder(const struct reading *reading)
 {
     const struct row *row = &reading->remainder;
-    char key[LAYOUT_KEY_SIZE];
-    layout_key_text(reading->layout.key, key);
+    char key[LAYOUT_TEXT_SIZE];
+    layout_key_text(reading->layout.start, key);
     printf("  %-*s  %s", FIRST_COLUMN, "rest", color_on(line_color(row)));
     if (row->kind != RAKHUBOLE_ROW_LEFT)
         put_item(row, NULL);

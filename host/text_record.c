@@ -184,7 +184,7 @@ static bool take_raw(struct cursor *cursor, bool is_signed, uint32_t *raw)
 
 static bool read_slot(struct cursor *cursor, uint8_t out[SLOT_SIZE])
 {
-    uint8_t *form = out + SLOT_KEY;
+    uint8_t *form = out + SLOT_FORM;
     uint32_t multiplier, divisor, offset, low, high;
     if (!take_slot(cursor, form) || !take(cursor, "multiplier") ||
         !take_number(cursor, UINT16_MAX, "a multiplier from 0 to 65535", &multiplier) ||
@@ -205,7 +205,7 @@ static bool read_slot(struct cursor *cursor, uint8_t out[SLOT_SIZE])
 
 static bool read_prn(struct cursor *cursor, uint8_t out[PRN_SIZE])
 {
-    return take_prn(cursor, out + PRN_NUMBER) && take_slot(cursor, out + PRN_SLOT_KEY);
+    return take_prn(cursor, out + PRN_NUMBER) && take_slot(cursor, out + PRN_FORM);
 }
 
 /* "08 6B" with bit H = 0; with H = 1 the target may be left out. */

@@ -34,12 +34,11 @@ bool number_text(double number, char text[VALUE_SIZE])
     return true;
 }
 
-/* The item's bits, 32 if they are not known. */
+/* The item's bits, the most if they are not known. */
 static unsigned width_of(const struct label *label)
 {
-    enum { WIDEST = 32 };
-    bool is_known = label && label->is_found && label->slot.width <= WIDEST;
-    return is_known ? label->slot.width : WIDEST;
+    bool is_known = label && label->is_found && label->slot.width <= WIDTH_SHOWN_MOST;
+    return is_known ? label->slot.width : WIDTH_SHOWN_MOST;
 }
 
 void code_text(uint64_t code, const struct label *label, char text[VALUE_SIZE])

@@ -2,16 +2,7 @@
 #ifndef WORDS_H
 #define WORDS_H
 
-/* Forms of PRN rows and SLOTs. */
-enum {
-    FORM_UNM = 1,
-    FORM_SNM = 2,
-    FORM_SED = 3,
-    FORM_BMP = 4,
-    FORM_ASC = 5,
-    FORM_BCD = 6,
-    FORM_LAST = 9
-};
+#include "format.h"
 
 /* Each gives words for any number; a form that is none gives NULL. */
 const char *refusal_words(unsigned refusal);

@@ -6,6 +6,18 @@
 
 enum { ODD_REFUSAL = 99 };
 
+enum {
+    NUMBER = RAKHUBOLE_ROW_NUMBER,
+    STATE = RAKHUBOLE_ROW_STATE,
+    INVALID = RAKHUBOLE_ROW_INVALID,
+    SHORT = RAKHUBOLE_ROW_SHORT,
+    UNKNOWN = RAKHUBOLE_ROW_UNKNOWN,
+    LEFT = RAKHUBOLE_ROW_LEFT,
+    ANSWERED = RAKHUBOLE_ROW_ANSWERED,
+    VERDICT = RAKHUBOLE_ROW_VERDICT,
+    CLEAR = RAKHUBOLE_CLEAR
+};
+
 uint64_t rakhubole_j1850_read(const uint8_t *first, size_t first_length, const uint8_t *response,
                               size_t response_length)
 {
@@ -34,17 +46,22 @@ struct odd {
 };
 
 static const struct odd odds[] = {
-    {0, 200, {0}},                                         /* 0: longer than was lent */
-    {7, 7, {0, 9, 0, 10, 0, 11, 1}},                       /* 1: no such kind of row */
-    {4, 4, {9, 0, 1, 0}},                                  /* 2: a row that is cut */
-    {6, 6, {9, 0, 10, 0, 9, 0}},                           /* 3: no verdict */
-    {26, 26, {7, 7, 7, 7, 7, 7, 7, 7, 7, 7, 7, 7, 7, 7, 7, 7, 7, 7, 7, 7, 9, 0, 10, 0, 11, 1}},
-    {4, 4, {10, 0, 11, 1}},                                /* 5: too few rows */
-    {0, 0, {0}},                                           /* 6: no rows */
-    {15, 15, {1, 0x7F, 0xF8, 0, 0, 0, 0, 0, 0, 9, 0, 10, 0, 11, 1}},   /* 7: no number, no PRN */
-    {6, 6, {9, 0, 10, 0, 11, 9}},                          /* 8: no such verdict */
-    {8, 8, {8, 99, 9, 0, 10, 7, 11, 3}},                   /* 9: no such Unknown, no such kind */
-    {16, 16, {6, 0, 0, 0, 1, 2, 0, 0, 0, 2, 9, 0, 10, 0, 11, 2}}};     /* 10: lines without PRN */
+    {0, 200, {0}},                                            /* 0: longer than was lent */
+    {7, 7, {0, LEFT, 0, ANSWERED, 0, VERDICT, CLEAR}},        /* 1: no such kind of row */
+    {4, 4, {LEFT, 0, NUMBER, 0}},                             /* 2: a row that is cut */
+    {6, 6, {LEFT, 0, ANSWERED, 0, LEFT, 0}},                  /* 3: no verdict */
+    {26, 26, {SHORT, SHORT, SHORT, SHORT, SHORT, SHORT, SHORT, SHORT, SHORT, SHORT,
+              SHORT, SHORT, SHORT, SHORT, SHORT, SHORT, SHORT, SHORT, SHORT, SHORT,
+              LEFT, 0, ANSWERED, 0, VERDICT, CLEAR}},         /* 4: too many rows */
+    {4, 4, {ANSWERED, 0, VERDICT, CLEAR}},                    /* 5: too few rows */
+    {0, 0, {0}},                                              /* 6: no rows */
+    {15, 15, {NUMBER, 0x7F, 0xF8, 0, 0, 0, 0, 0, 0, LEFT, 0,
+              ANSWERED, 0, VERDICT, CLEAR}},                  /* 7: no number, no PRN */
+    {6, 6, {LEFT, 0, ANSWERED, 0, VERDICT, 9}},               /* 8: no such verdict */
+    {8, 8, {UNKNOWN, 99, LEFT, 0, ANSWERED, 7, VERDICT,
+            RAKHUBOLE_VERDICT_UNKNOWN}},                      /* 9: no such Unknown, no such kind */
+    {16, 16, {INVALID, 0, 0, 0, 1, STATE, 0, 0, 0, 2, LEFT, 0, ANSWERED, 0, VERDICT,
+              RAKHUBOLE_FLAGGED}}};                           /* 10: lines without PRN */
 
 uint64_t rakhubole_j1850_report(const uint8_t *supplement, size_t supplement_length,
                                 const uint8_t *first, size_t first_length,

@@ -21,14 +21,21 @@ import sys
 import tempfile
 import time
 
+sys.path.insert(0, str(pathlib.Path(__file__).resolve().parents[2] / "tools"))
+from c_names import c_names
+
+FORMAT, NAMES = c_names("host/format.h"), c_names("include/rakhubole.h")
 SUPPLEMENTS = 300
 NUMBERS = 100
 SEED = 1
 SECONDS = 10
-REFUSALS = set(range(1, 7))
-UNKNOWNS = set(range(1, 9))
-ROW_KINDS = set(range(1, 12))
-VERDICTS = {1, 2, 3}
+REFUSALS = set(range(NAMES.RAKHUBOLE_OVER_TWELVE_BYTES,
+                     NAMES.RAKHUBOLE_RESPONSE_CHECK_BYTE_WRONG + 1))
+UNKNOWNS = set(range(NAMES.RAKHUBOLE_UNKNOWN_PRN, NAMES.RAKHUBOLE_UNKNOWN_LAYOUT + 1))
+ROW_KINDS = set(range(NAMES.RAKHUBOLE_ROW_NUMBER, NAMES.RAKHUBOLE_ROW_VERDICT + 1))
+VERDICTS = {NAMES.RAKHUBOLE_CLEAR, NAMES.RAKHUBOLE_FLAGGED, NAMES.RAKHUBOLE_VERDICT_UNKNOWN}
+KEY_SIZES = {FORMAT.RECORD_SLOT: FORMAT.SLOT_KEY_SIZE, FORMAT.RECORD_PRN: FORMAT.PRN_KEY_SIZE,
+             FORMAT.RECORD_LAYOUT: FORMAT.LAYOUT_KEY_SIZE}
 # PRNs whose SLOTs have codes between two states: the width, and the states that are printed.
 STATES = {"1808": (6, {0, 1, 2, 4, 8, 0x10, 0x20}),
           "1810": (6, {0, 1, 0x10, *range(0x20, 0x26)}),
@@ -49,28 +56,33 @@ def number(value, size):
 
 
 def random_slot(chance):
-    form = chance.randint(1, 9)
-    least, most = (-(1 << 31), (1 << 31) - 1) if form == 2 else (0, (1 << 32) - 1)
+    form = chance.randint(FORMAT.FORM_UNM, FORMAT.FORM_LAST)
+    is_signed = form == FORMAT.FORM_SNM
+    least, most = (-(1 << 31), (1 << 31) - 1) if is_signed else (0, (1 << 32) - 1)
     low, high = sorted((edge(chance, least, most), edge(chance, least, most)))
-    return (bytes((1, form, edge(chance, 1, 64))) + number(chance.randint(1000, 65535), 2)
+    return (bytes((FORMAT.RECORD_SLOT, form, edge(chance, 1, FORMAT.WIDTH_MOST)))
+            + number(chance.randint(1000, 65535), 2)
             + number(edge(chance, 0, 65535), 2) + number(edge(chance, 1, 65535), 2)
             + number(edge(chance, -(1 << 31), (1 << 31) - 1), 4) + number(low, 4)
             + number(high, 4))
 
 
 def random_prn(chance):
-    return (b"\2" + number(chance.randint(0xF000, 0xF7FF), 2)
-            + bytes((chance.randint(1, 9), edge(chance, 1, 64)))
+    return (bytes((FORMAT.RECORD_PRN,)) + number(chance.randint(0xF000, 0xF7FF), 2)
+            + bytes((chance.randint(FORMAT.FORM_UNM, FORMAT.FORM_LAST),
+                     edge(chance, 1, FORMAT.WIDTH_MOST)))
             + number(edge(chance, 0, 65535), 2))
 
 
 def random_layout(chance):
-    has_target, count = chance.random() < 0.5, edge(chance, 0, 16)
-    first = chance.randrange(256) & 0x0F if has_target else chance.randrange(256) | 0x10
+    has_target, count = chance.random() < 0.5, edge(chance, 0, FORMAT.LAYOUT_PRNS)
+    first = chance.randrange(256)
+    first = first & FORMAT.TYPE_BITS if has_target else first | FORMAT.BIT_H
     selector = bytes((1, chance.randrange(256))) if chance.random() < 0.7 else bytes(2)
     prns = b"".join(number(chance.randrange(65536), 2) for _ in range(count))
-    return (bytes((3, first, chance.randrange(256) if has_target else 0)) + selector
-            + bytes((count,)) + prns.ljust(32, b"\0"))
+    target = chance.randrange(256) if has_target else 0
+    record = bytes((FORMAT.RECORD_LAYOUT, first, target)) + selector + bytes((count,)) + prns
+    return record.ljust(FORMAT.LAYOUT_SIZE, b"\0")
 
 
 def random_supplement(chance):
@@ -78,7 +90,7 @@ def random_supplement(chance):
     records = {}
     for _ in range(chance.randrange(40)):
         record = chance.choice((random_slot, random_prn, random_layout))(chance)
-        records.setdefault(record[:3 if record[0] == 2 else 5], record)
+        records.setdefault(record[:KEY_SIZES[record[0]]], record)
     return b"".join(records.values())
 
 
@@ -112,6 +124,10 @@ def rows_of(report):
     return [*report["items"], report["remainder"], report["answer"], report["verdict"]]
 
 
+def numbers_of(rows, kind):
+    return {row["number"] for row in rows if row["kind"] == kind}
+
+
 def test_samples(tool, samples):
     """The samples show every refusal of the reader, row kind, Unknown number and verdict."""
     reports = objects(tool, samples / "van.sup", samples / "van.log")
@@ -119,9 +135,9 @@ def test_samples(tool, samples):
     for what, wanted, found in (
             ("refusals", REFUSALS, {r["refusal"] for r in reports if r["refusal"]}),
             ("kinds of rows", ROW_KINDS, {r["kind"] for r in rows}),
-            ("Unknown numbers", UNKNOWNS, {r["number"] for r in rows if r["kind"] == 8}),
-            ("response kinds", {0, 1, 2}, {r["number"] for r in rows if r["kind"] == 10}),
-            ("verdicts", VERDICTS, {r["number"] for r in rows if r["kind"] == 11})):
+            ("Unknown numbers", UNKNOWNS, numbers_of(rows, NAMES.RAKHUBOLE_ROW_UNKNOWN)),
+            ("response kinds", {0, 1, 2}, numbers_of(rows, NAMES.RAKHUBOLE_ROW_ANSWERED)),
+            ("verdicts", VERDICTS, numbers_of(rows, NAMES.RAKHUBOLE_ROW_VERDICT))):
         if wanted != found:
             yield f"of the {what}, the samples do not show {sorted(wanted - found)}"
 
@@ -131,13 +147,14 @@ def test_json(tool, samples):
     for report in objects(tool, samples / "van.sup", samples / "van.log"):
         for row in rows_of(report) if report["refusal"] == 0 else ():
             body = bytes.fromhex(row["row"])[1:]
+            is_number = row["kind"] == NAMES.RAKHUBOLE_ROW_NUMBER
             if row["row"][:2] != f"{row['kind']:02X}":
                 yield f"the kind is lost: {row}"
-            if row["kind"] == 1 and struct.pack(">d", row["value"]) != body:
+            if is_number and struct.pack(">d", row["value"]) != body:
                 yield f"the double is changed: {row}"
-            if row["kind"] == 1 and row["double"] != body.hex().upper():
+            if is_number and row["double"] != body.hex().upper():
                 yield f"the bits of the double are changed: {row}"
-            if row["kind"] != 1 and row["kind"] != 7:
+            if not is_number and row["kind"] != NAMES.RAKHUBOLE_ROW_SHORT:
                 if row.get("code", row.get("number")) != int.from_bytes(body, "big"):
                     yield f"the code is changed: {row}"
 
@@ -172,8 +189,8 @@ def test_numbers(tool, _samples):
 
 def state_of(row):
     """What the tool says of a code: a text, that there is no state, or that it is Unknown."""
-    if row["kind"] == 8:
-        return "Unknown" if row["number"] == 5 else None
+    if row["kind"] == NAMES.RAKHUBOLE_ROW_UNKNOWN:
+        return "Unknown" if row["number"] == NAMES.RAKHUBOLE_UNKNOWN_STATE else None
     if row.get("no_state"):
         return "no state" if row["text"] is None and row["called"] else None
     return "state" if row["text"] and "called" not in row else None

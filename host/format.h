@@ -1,0 +1,66 @@
+/* The numbers that document 01 fixes for frames, records and rows, for all C
+ * and Python code here. It has enums of plain numbers alone, since
+ * tools/c_names.py reads them too. */
+#ifndef FORMAT_H
+#define FORMAT_H
+
+/* A frame: its bytes in all, and the bits of its first byte. */
+enum { FRAME_MOST = 12 };
+enum { PRIORITY_BITS = 0xE0, BIT_H = 0x10, TYPE_BITS = 0x0F };
+
+/* Forms of PRN rows and SLOTs, and the widths that these may have. */
+enum {
+    FORM_UNM = 1,
+    FORM_SNM = 2,
+    FORM_SED = 3,
+    FORM_BMP = 4,
+    FORM_ASC = 5,
+    FORM_BCD = 6,
+    FORM_LAST = 9
+};
+enum { WIDTH_MOST = 64, WIDTH_SHOWN_MOST = 32 };
+
+enum { SUPPLEMENT_MOST = 16384 };
+
+enum { RECORD_SLOT = 1, RECORD_PRN = 2, RECORD_LAYOUT = 3 };
+
+/* Where the fields of a record stand, how many of its first bytes are its key,
+ * and its size, the kind byte counted in each. A SLOT is named by form, width
+ * and number, which stand together in a SLOT record and in a PRN record. */
+enum {
+    SLOT_FORM = 1,
+    SLOT_WIDTH = 2,
+    SLOT_NUMBER = 3,
+    SLOT_MULTIPLIER = 5,
+    SLOT_DIVISOR = 7,
+    SLOT_OFFSET = 9,
+    SLOT_LOWEST = 13,
+    SLOT_HIGHEST = 17,
+    SLOT_KEY_SIZE = 5,
+    SLOT_SIZE = 21
+};
+enum {
+    PRN_NUMBER = 1,
+    PRN_FORM = 3,
+    PRN_WIDTH = 4,
+    PRN_SLOT_NUMBER = 5,
+    PRN_KEY_SIZE = 3,
+    PRN_SIZE = 7
+};
+enum {
+    LAYOUT_FIRST_BYTE = 1,
+    LAYOUT_TARGET = 2,
+    LAYOUT_HAS_SELECTOR = 3,
+    LAYOUT_SELECTOR = 4,
+    LAYOUT_COUNT = 5,
+    LAYOUT_PRN_LIST = 6,
+    LAYOUT_KEY_SIZE = 5,
+    LAYOUT_SIZE = 38
+};
+enum { LAYOUT_PRNS = 16 };
+
+/* The bodies of rows: a Number's; that of a State, Bits, Text, Digits or
+ * Invalid; a Short's; and that of any other row. */
+enum { NUMBER_BODY = 8, CODE_BODY = 4, SHORT_BODY = 0, OTHER_BODY = 1 };
+
+#endif
