@@ -127,8 +127,8 @@ static void show_times(void)
 /* ---- Stack ---- */
 
 struct depths {
-    size_t archive[4];
-    size_t decoder[4];
+    size_t archive[CALLS];
+    size_t decoder[CALLS];
 };
 
 static void keep_deeper(size_t *deepest, size_t depth)
@@ -151,7 +151,7 @@ static void show_depths(const char *crates)
     size_t cases = visit_all(crates, measure_depths, &depths);
     printf("\nDeepest stack in bytes over %zu inputs, below that of an empty call:\n\n", cases);
     printf("%-28s %12s %12s\n", "call", "archive", "C");
-    for (int call = 0; call < 4; call++)
+    for (int call = 0; call < CALLS; call++)
         printf("%-28s %12zu %12zu\n", call_names[call], depths.archive[call], depths.decoder[call]);
 }
 

@@ -6,6 +6,7 @@
 #include <stdint.h>
 
 enum call { CALL_READ, CALL_WRITE, CALL_CHECK, CALL_REPORT };
+#define CALLS 4
 
 #define MOST_RUNS 3
 

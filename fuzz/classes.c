@@ -31,8 +31,11 @@ static const uint16_t wanted[][WORDS] = {
                      [UNKNOWN] = SPAN(RAKHUBOLE_UNKNOWN_PRN, RAKHUBOLE_UNKNOWN_LAYOUT)},
 };
 
-static unsigned long inputs, accepted, null_runs;
-static unsigned long counts[WORDS][NUMBERS];
+struct tally {
+    unsigned long inputs, accepted, null_runs;
+    unsigned long counts[WORDS][NUMBERS];
+};
+static struct tally tallies[CALLS];
 
 static size_t body_size(uint8_t kind)
 {
@@ -43,45 +46,47 @@ static size_t body_size(uint8_t kind)
     return kind <= RAKHUBOLE_ROW_INVALID ? CODE_BODY : OTHER_BODY;
 }
 
-static void count_rows(const uint8_t *out, size_t length)
+static void count_rows(struct tally *tally, const uint8_t *out, size_t length)
 {
     for (size_t at = 0; at < length; at += 1 + body_size(out[at])) {
         if (out[at] == RAKHUBOLE_ROW_VERDICT)
-            counts[VERDICT][out[at + 1]]++;
+            tally->counts[VERDICT][out[at + 1]]++;
         else
-            counts[ROW][out[at]]++;
+            tally->counts[ROW][out[at]]++;
         if (out[at] == RAKHUBOLE_ROW_UNKNOWN)
-            counts[UNKNOWN][out[at + 1]]++;
+            tally->counts[UNKNOWN][out[at + 1]]++;
     }
 }
 
 void count_classes(const struct request *request, uint64_t answer, const uint8_t *out)
 {
-    inputs++;
+    struct tally *tally = &tallies[request->call];
+    tally->inputs++;
     for (size_t i = 0; i < runs_of(request->call); i++)
-        null_runs += request->in[i].length == 0;
+        tally->null_runs += request->in[i].length == 0;
     if (RAKHUBOLE_REFUSAL(answer) != 0) {
-        counts[REFUSED][RAKHUBOLE_REFUSAL(answer)]++;
+        tally->counts[REFUSED][RAKHUBOLE_REFUSAL(answer)]++;
         return;
     }
-    accepted++;
+    tally->accepted++;
     if (request->call == CALL_READ)
-        counts[KIND][RAKHUBOLE_READ_KIND(answer)]++;
+        tally->counts[KIND][RAKHUBOLE_READ_KIND(answer)]++;
     if (request->call == CALL_REPORT)
-        count_rows(out, RAKHUBOLE_ROWS_LENGTH(answer));
+        count_rows(tally, out, RAKHUBOLE_ROWS_LENGTH(answer));
 }
 
 bool show_classes(enum call call)
 {
-    bool all = accepted > 0 && null_runs > 0;
-    printf("%s: %lu inputs; accepted: %lu, with an empty run: %lu", call_names[call], inputs,
-           accepted, null_runs);
+    const struct tally *tally = &tallies[call];
+    bool all = tally->accepted > 0 && tally->null_runs > 0;
+    printf("%s: %lu inputs; accepted: %lu, with an empty run: %lu", call_names[call],
+           tally->inputs, tally->accepted, tally->null_runs);
     for (int word = 0; word < WORDS; word++) {
         for (int number = 0; number < NUMBERS; number++) {
             if (!(wanted[call][word] >> number & 1))
                 continue;
-            printf(", %s %d: %lu", words[word], number, counts[word][number]);
-            all = all && counts[word][number] > 0;
+            printf(", %s %d: %lu", words[word], number, tally->counts[word][number]);
+            all = all && tally->counts[word][number] > 0;
         }
     }
     printf("\n%s", all ? "" : "a class has no input\n");

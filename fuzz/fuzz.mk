@@ -13,7 +13,7 @@ FUZZ_CFLAGS := $(BENCH_CFLAGS) -Ifuzz -g -fno-sanitize-recover=all
 JUDGE_LIBRARIES := $(JUDGE) -lpthread -ldl -lm
 FUZZ_LIBRARIES := bench/archive.c $(ARCHIVE) $(JUDGE_LIBRARIES)
 
-.PHONY: judge fuzz fuzz-replay fuzz-faults fuzz-corpus bit-errors
+.PHONY: judge fuzz fuzz-replay fuzz-faults fuzz-corpus bit-errors alike
 
 $(JUDGE): judge
 
@@ -73,3 +73,15 @@ checks: bit-errors
 
 bit-errors: $(FUZZ)/bit_errors ## flip every bit of accepted frames, judged by the second program
 	$(FUZZ)/bit_errors
+
+CASES := 1000000
+ALIKE_SOURCES := $(addprefix fuzz/,alike.c draft.c supplement.c classes.c judge.c) $(addprefix bench/,calls.c vectors.c)
+
+# Every name that the earlier archive defines gets another; those that it takes from outside stay.
+alike: $(FUZZ_NEEDS) ## compare with an earlier archive, BEFORE=its path, on the vectors and CASES=1000000 random cases
+	@if [ ! -f "$(BEFORE)" ]; then echo "alike: BEFORE=path of an earlier archive is needed"; exit 2; fi
+	@mkdir -p $(FUZZ)
+	nm -g --defined-only $(BEFORE) | awk 'NF == 3 { print $$3, "before_" $$3 }' | sort -u > $(FUZZ)/before.names
+	objcopy --redefine-syms=$(FUZZ)/before.names $(BEFORE) $(FUZZ)/before.a
+	$(CC) $(BENCH_CFLAGS) -Ifuzz $(ALIKE_SOURCES) $(DECODER_SOURCES) $(FUZZ)/before.a $(FUZZ_LIBRARIES) -o $(FUZZ)/alike
+	$(FUZZ)/alike crates $(CASES)

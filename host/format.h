@@ -6,7 +6,7 @@
 
 /* A frame: its bytes in all, and the bits of its first byte. */
 enum { FRAME_MOST = 12 };
-enum { PRIORITY_BITS = 0xE0, BIT_H = 0x10, TYPE_BITS = 0x0F };
+enum { PRIORITY_BITS = 0xE0, BIT_H = 0x10, BIT_K = 0x08, TYPE_BITS = 0x0F };
 
 /* Forms of PRN rows and SLOTs, and the widths that these may have. */
 enum {
