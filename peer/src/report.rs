@@ -5,8 +5,6 @@ pub mod case;
 pub mod double;
 pub mod item;
 pub mod line;
-#[cfg(test)]
-pub mod mutants;
 pub mod neighbours;
 pub mod promise;
 pub mod rows;

@@ -73,12 +73,6 @@ pub fn has_slot(key: (u8, u8, u16)) -> bool {
     slot_row(key).is_some()
 }
 
-/// True of the SED SLOTs that have invalid codes between their states.
-#[cfg(test)]
-pub fn has_gaps(key: (u8, u8, u16)) -> bool {
-    matches!(key, (form::SED, 6, 1) | (form::SED, 8, 4 | 5))
-}
-
 /// The largest raw number of `width` bits, at most FFFFFFFFh.
 pub const fn all_ones(width: u8) -> u32 {
     if width >= 32 {

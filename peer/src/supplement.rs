@@ -3,8 +3,6 @@
 pub mod draft;
 pub mod kind;
 pub mod layout;
-#[cfg(test)]
-pub mod mutants;
 pub mod records;
 pub mod walk;
 

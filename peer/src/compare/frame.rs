@@ -193,7 +193,3 @@ fn difference(
     }
     differs.then_some(text)
 }
-
-#[cfg(test)]
-#[path = "frame_tests.rs"]
-mod tests;

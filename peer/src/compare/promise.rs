@@ -170,7 +170,3 @@ fn count_remainders(fewer: &[u8], more: &[u8], outcome: &mut Outcome) {
         outcome.count("Short turned Unknown".to_string());
     }
 }
-
-#[cfg(test)]
-#[path = "promise_tests.rs"]
-mod tests;

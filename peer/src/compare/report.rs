@@ -106,7 +106,3 @@ fn difference(
     }
     Some(text)
 }
-
-#[cfg(test)]
-#[path = "report_tests.rs"]
-pub mod tests;

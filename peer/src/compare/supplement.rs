@@ -59,7 +59,3 @@ fn difference(check: Check, mut lent: Lent, expected: u64) -> Option<String> {
     }
     Some(text)
 }
-
-#[cfg(test)]
-#[path = "supplement_tests.rs"]
-mod tests;

@@ -1,5 +1,4 @@
 use super::*;
-use crate::report::mutants::mutants;
 
 fn bench(name: &str) -> ReportCase {
     let mut list = report_bench::all().into_iter();
@@ -60,27 +59,6 @@ fn bench_cases_come_first_with_names_and_printed_answers() {
     }
     let first = files.stdout.lines().next().unwrap();
     assert!(first.starts_with("0000000000001800 014059400000000000"));
-}
-
-/// What a line of expected output would show of a faulty report.
-#[test]
-fn deliberate_faults_are_noticed() {
-    let bench = report_bench::all().into_iter().map(|bench| bench.case);
-    let cases: Vec<ReportCase> = bench.chain(cases()).collect();
-    let expected: Vec<String> = cases
-        .iter()
-        .map(|case| shown(case, case.answer()))
-        .collect();
-    let unnoticed = mutants().into_iter().filter(|(_, mutant)| {
-        let mut both = cases.iter().zip(&expected);
-        both.all(|(case, expected)| shown(case, mutant(&case.request())) == *expected)
-    });
-    let names: Vec<String> = unnoticed.map(|(name, _)| name).collect();
-    assert_eq!(names, Vec::<String>::new());
-}
-
-fn shown(case: &ReportCase, answer: (u64, Vec<u8>)) -> String {
-    expected_line(case.out_length, answer.0, &answer.1)
 }
 
 #[test]

@@ -42,7 +42,6 @@ fn case_line(supplement: &[u8]) -> String {
 #[cfg(test)]
 mod tests {
     use super::*;
-    use crate::supplement::mutants::mutants;
 
     #[test]
     fn lines() {
@@ -64,15 +63,6 @@ mod tests {
         assert!(!files.stdout.contains(char::is_uppercase));
         let (again, _, _) = make();
         assert!(again.stdin == files.stdin && again.stdout == files.stdout);
-    }
-
-    #[test]
-    fn deliberate_faults_are_noticed() {
-        let cases = cases();
-        for (name, mutant) in mutants() {
-            let is_noticed = cases.iter().any(|case| mutant(case) != answer(case));
-            assert!(is_noticed, "{name}");
-        }
     }
 
     #[test]
