@@ -56,7 +56,7 @@ tables-check: ## test the transcription and compare the committed tables with do
 	fi
 
 peer: archive ## build the independent second program
-	cd peer && $(CARGO) build --offline --release --bins --features report
+	cd peer && $(CARGO) build --offline --release --bins
 
 peer-tests: ## run the second program's own tests
 	cd peer && $(CARGO) test --offline --release --lib

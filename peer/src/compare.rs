@@ -6,92 +6,164 @@ mod lent;
 mod long_runs;
 pub mod promise;
 mod promise_random;
-pub mod report;
 mod report_random;
-pub mod supplement;
 mod supplement_random;
 
-use std::collections::BTreeMap;
+use crate::case::{Call, Case};
+use crate::counts::{self, Counts};
+use crate::random::Random;
+use crate::text::{hex, hex_answer};
+use lent::Lent;
 
-/// The calls that are made only where memory suffices.
-const LONG_RUNS: &str = "runs over 32 bits";
+/// A pointer and a length.
+pub type Run = (*mut u8, usize);
 
-/// The class of an answer: accepted, or refused with its number.
-fn class(answer: u64) -> String {
-    match answer & 0xFF {
-        0 => "accepted".to_string(),
-        number => format!("refused {number}"),
-    }
-}
-
-/// The classes that must have a case, and the calls that may have none.
-fn with_long_runs(mut classes: Vec<String>) -> Vec<String> {
-    classes.push(LONG_RUNS.to_string());
-    classes
-}
+/// Makes a call with its runs in their order, the output last.
+pub type Archive<'a> = &'a dyn Fn(Call, &[Run]) -> u64;
 
 /// After this many differences the comparing stops.
 const ENOUGH: usize = 10;
 
+const NULL_RUNS: &str = "NULL runs";
+
+/// Compares `count` random and damaged supplements.
+pub fn supplements(archive: Archive, count: u64, seed: u64) -> Outcome {
+    let case = |random: &mut Random| Case::check(supplement_random::supplement(random));
+    of_call(archive, Call::Check, case, count, seed)
+}
+
+/// Compares `count` random pairs of supplement and frame.
+pub fn reports(archive: Archive, count: u64, seed: u64) -> Outcome {
+    of_call(archive, Call::Report, report_random::case, count, seed)
+}
+
+fn of_call(
+    archive: Archive,
+    call: Call,
+    case: impl Fn(&mut Random) -> Case,
+    count: u64,
+    seed: u64,
+) -> Outcome {
+    let mut random = Random::new(seed);
+    let mut classes = counts::classes(call);
+    classes.push(NULL_RUNS.to_string());
+    let outcome = Outcome::new(call.name(), classes).with_long_runs(archive, &[call]);
+    outcome.run(count, |outcome| {
+        let case = case(&mut random);
+        let answer = case.answer();
+        outcome.counts.count_answer(call, &answer);
+        outcome.compare(archive, &case, &answer, &mut random);
+    })
+}
+
 /// What came of comparing one layer.
-#[derive(Default)]
 pub struct Outcome {
-    pub cases: u64,
+    layer: &'static str,
+    /// The classes that must have a case.
+    classes: Vec<String>,
+    counts: Counts,
+    cases: u64,
+    /// Calls that are made only where memory suffices, in a layer that has such.
+    long_runs: Option<u64>,
     pub differences: Vec<String>,
-    counts: BTreeMap<String, u64>,
 }
 
 impl Outcome {
-    /// The long runs and what differed in them, then `count` cases, each
-    /// compared by `compare`, unless enough differ.
-    fn of(
-        (long, differences): (u64, Vec<String>),
-        count: u64,
-        mut compare: impl FnMut(&mut Outcome),
-    ) -> Outcome {
-        let counts = BTreeMap::from([(LONG_RUNS.to_string(), long)]);
-        let mut outcome = Outcome {
+    fn new(layer: &'static str, classes: Vec<String>) -> Outcome {
+        Outcome {
+            layer,
+            classes,
+            counts: Counts::default(),
             cases: 0,
-            differences,
-            counts,
-        };
-        while outcome.cases < count && !outcome.has_enough() {
-            outcome.cases += 1;
-            compare(&mut outcome);
+            long_runs: None,
+            differences: Vec::new(),
         }
-        outcome
     }
 
-    fn has_enough(&self) -> bool {
-        self.differences.len() >= ENOUGH
+    /// `count` cases, each compared by `compare`, unless enough differ.
+    fn run(mut self, count: u64, mut compare: impl FnMut(&mut Outcome)) -> Outcome {
+        while self.cases < count && self.differences.len() < ENOUGH {
+            self.cases += 1;
+            compare(&mut self);
+        }
+        self
     }
 
-    fn count(&mut self, class: String) {
-        *self.counts.entry(class).or_default() += 1;
+    /// The count of each class in one line.
+    pub fn summary(&self) -> String {
+        let (layer, cases, differ) = (self.layer, self.cases, self.differences.len());
+        let mut counts = self.counts.summary(&self.classes);
+        if let Some(calls) = self.long_runs {
+            counts += &format!(", runs over 32 bits: {calls}");
+        }
+        format!("{layer}: {cases} cases, {differ} differ ({counts})")
     }
 
-    fn cases_of(&self, class: &str) -> u64 {
-        self.counts.get(class).copied().unwrap_or(0)
+    /// The classes without a case.
+    pub fn missing(&self) -> Vec<String> {
+        self.counts.missing(&self.classes)
     }
 
-    /// The line about a layer, with the count of each class.
-    pub fn summary(&self, layer: &str, classes: &[String]) -> String {
-        let counts = classes
-            .iter()
-            .map(|class| format!("{class}: {}", self.cases_of(class)));
-        let counts = counts.collect::<Vec<String>>().join(", ");
-        let differ = self.differences.len();
-        format!("{layer}: {} cases, {differ} differ ({counts})", self.cases)
+    /// Makes one call; compares its number and all memory around what was lent.
+    fn compare(
+        &mut self,
+        archive: Archive,
+        case: &Case,
+        (expected, written): &(u64, Vec<u8>),
+        random: &mut Random,
+    ) -> bool {
+        let mut lent = lend(case, random);
+        if lent.iter().any(Lent::is_null) {
+            self.counts.count(NULL_RUNS);
+        }
+        let mut memory = lent.clone();
+        if let Some(out) = memory.last_mut().filter(|_| case.call.has_output()) {
+            out.put(written);
+        }
+        let given = call(archive, case.call, &mut lent);
+        let found = difference(case, (*expected, given), &memory, &lent);
+        let is_same = found.is_none();
+        self.differences.extend(found);
+        is_same
     }
+}
 
-    /// Those of the classes that have no case.
-    pub fn missing<'a>(&self, classes: &'a [String]) -> Vec<&'a String> {
-        let without_case = |class: &&String| self.cases_of(class) == 0;
-        classes.iter().filter(without_case).collect()
+/// The runs of the case, the output last.
+fn lend(case: &Case, random: &mut Random) -> Vec<Lent> {
+    let inputs = case.inputs.iter();
+    let mut lent: Vec<Lent> = inputs.map(|run| Lent::holding(run, random)).collect();
+    if case.call.has_output() {
+        lent.push(Lent::filled(case.out_length, random));
     }
+    lent
+}
 
-    /// No difference, and a case of every class.
-    pub fn is_good(&self, classes: &[String]) -> bool {
-        self.differences.is_empty() && self.missing(classes).is_empty()
+fn call(archive: Archive, call: Call, lent: &mut [Lent]) -> u64 {
+    let runs: Vec<Run> = lent.iter_mut().map(Lent::run).collect();
+    archive(call, &runs)
+}
+
+/// The case with both answers, and each run that is not as expected.
+fn difference(
+    case: &Case,
+    (ours, archive): (u64, u64),
+    expected: &[Lent],
+    given: &[Lent],
+) -> Option<String> {
+    let is_other = |place: &usize| expected[*place].whole() != given[*place].whole();
+    let touched: Vec<usize> = (0..given.len()).filter(is_other).collect();
+    if ours == archive && touched.is_empty() {
+        return None;
     }
+    let mut text = case.to_string() + &both(&hex_answer(ours), &hex_answer(archive));
+    for place in touched {
+        let [ours, archive] = [expected, given].map(|lent| hex(lent[place].whole()));
+        text += &format!("\n  memory of {}, guards too", case.call.runs()[place]);
+        text += &both(&ours, &archive);
+    }
+    Some(text)
+}
+
+fn both(ours: &str, archive: &str) -> String {
+    format!("\n  expected {ours}\n  archive  {archive}")
 }

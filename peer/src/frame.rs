@@ -1,6 +1,5 @@
 //! J1850 frames with consolidated headers: two byte runs, before EOD and after.
 
-pub mod case;
 pub mod check_byte;
 pub mod draft;
 pub mod header;

@@ -4,7 +4,9 @@
 //! `compare` hold the cases that the two programs of the same names make from
 //! them.
 
+pub mod case;
 pub mod compare;
+mod counts;
 pub mod frame;
 pub mod random;
 pub mod report;

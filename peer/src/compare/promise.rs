@@ -1,12 +1,12 @@
 //! What a report keeps when records are added to the supplement or taken away,
 //! told from the rows that the archive gives.
 
-use super::lent::Lent;
 use super::promise_random::{self, Pair};
-use super::report::{call_with, Call};
-use super::Outcome;
+use super::{call, lend, Archive, Outcome};
+use crate::case::{Call, Case};
+use crate::counts::Counts;
 use crate::random::Random;
-use crate::report::case::LONGEST;
+use crate::report::line::LONGEST;
 use crate::report::promise::broken_sentences;
 use crate::report::rows::{is_short, is_unknown, left, parse, unknown_number, Rows};
 use crate::report::scene::parts_of;
@@ -14,50 +14,48 @@ use crate::report::{layout_key, RULES};
 use crate::supplement::records::Records;
 use crate::text::hex;
 
-/// The classes of which `run` must have a case.
-pub fn classes() -> Vec<String> {
-    let names = [
-        "same report",
-        "item turned Unknown 1",
-        "item turned Unknown 2",
-        "item turned Unknown 3",
-        "item of another Unknown number",
-        "item lines missing",
-        "layout in neither",
-        "remainder turned Unknown 2",
-        "remainder turned Unknown 8",
-        "Left turned Unknown",
-        "Short turned Unknown",
-        "Clear stays",
-        "Flagged stays",
-        "Unknown stays",
-        "Clear turned Unknown",
-        "Flagged turned Unknown",
-        "widths and Left",
-        "widths and Left, not 0",
-    ];
-    names.map(String::from).to_vec()
-}
+/// What fewer records change, and what of the rows was tried.
+const CLASSES: [&str; 18] = [
+    "same report",
+    "item turned Unknown 1",
+    "item turned Unknown 2",
+    "item turned Unknown 3",
+    "item of another Unknown number",
+    "item lines missing",
+    "layout in neither",
+    "remainder turned Unknown 2",
+    "remainder turned Unknown 8",
+    "Left turned Unknown",
+    "Short turned Unknown",
+    "Clear stays",
+    "Flagged stays",
+    "Unknown stays",
+    "Clear turned Unknown",
+    "Flagged turned Unknown",
+    "widths and Left",
+    "widths and Left, not 0",
+];
 
 /// Tries `count` random pairs of supplements with a frame.
-pub fn run(call: Call, count: u64, seed: u64) -> Outcome {
+pub fn run(archive: Archive, count: u64, seed: u64) -> Outcome {
     let mut random = Random::new(seed);
-    Outcome::of((0, Vec::new()), count, |outcome| {
+    let outcome = Outcome::new("promise", CLASSES.map(String::from).to_vec());
+    outcome.run(count, |outcome| {
         let pair = promise_random::pair(&mut random);
-        if let Err(text) = try_pair(call, &pair, &mut random, outcome) {
+        if let Err(text) = try_pair(archive, &pair, &mut random, &mut outcome.counts) {
             outcome.differences.push(format!("{text}\n  {pair}"));
         }
     })
 }
 
 fn try_pair(
-    call: Call,
+    archive: Archive,
     pair: &Pair,
     random: &mut Random,
-    outcome: &mut Outcome,
+    counts: &mut Counts,
 ) -> Result<(), String> {
-    let fewer = report(call, &pair.fewer, pair, random)?;
-    let more = report(call, &pair.more, pair, random)?;
+    let fewer = report(archive, &pair.fewer, pair, random)?;
+    let more = report(archive, &pair.more, pair, random)?;
     let no_rows = |bytes: &[u8]| format!("no rows of a report: {}", hex(bytes));
     let fewer_rows = parse(&fewer).ok_or_else(|| no_rows(&fewer))?;
     let more_rows = parse(&more).ok_or_else(|| no_rows(&more))?;
@@ -65,9 +63,9 @@ fn try_pair(
     let has_layout = Records::of(&pair.fewer).layout(key).is_some();
     let mut broken = broken_sentences(&fewer_rows, &more_rows, has_layout);
     for (supplement, rows) in [(&pair.fewer, &fewer_rows), (&pair.more, &more_rows)] {
-        broken.extend(try_widths(supplement, pair, rows, outcome));
+        broken.extend(try_widths(supplement, pair, rows, counts));
     }
-    count(&fewer_rows, &more_rows, outcome);
+    count(&fewer_rows, &more_rows, counts);
     if broken.is_empty() {
         return Ok(());
     }
@@ -78,19 +76,14 @@ fn try_pair(
 
 /// The rows of an accepted supplement and frame.
 fn report(
-    call: Call,
+    archive: Archive,
     supplement: &[u8],
     pair: &Pair,
     random: &mut Random,
 ) -> Result<Vec<u8>, String> {
-    let (first, response) = pair.frame.runs();
-    let mut lent = [
-        Lent::holding(supplement, random),
-        Lent::holding(&first, random),
-        Lent::holding(&response, random),
-        Lent::filled(LONGEST, random),
-    ];
-    let answer = call_with(call, &mut lent);
+    let case = Case::report(supplement.to_vec(), pair.frame.runs());
+    let mut lent = lend(&case, random);
+    let answer = call(archive, Call::Report, &mut lent);
     let length = (answer >> 8) as usize;
     if answer & 0xFF != 0 || length > LONGEST {
         return Err(format!("answer {answer:016X} to an accepted supplement"));
@@ -104,7 +97,7 @@ fn try_widths(
     supplement: &[u8],
     pair: &Pair,
     rows: &Rows,
-    outcome: &mut Outcome,
+    counts: &mut Counts,
 ) -> Option<&'static str> {
     let parts = parts_of(&pair.frame);
     let records = Records::of(supplement);
@@ -114,7 +107,7 @@ fn try_widths(
     if lines.iter().any(|line| is_short(line) || is_lost(line)) {
         return None;
     }
-    outcome.count("widths and Left".to_string());
+    counts.count("widths and Left");
     let widths = layout.used().iter().map(|prn| {
         let row = (RULES.prn)(&records, *prn);
         row.map_or(0, |row| usize::from(row.width))
@@ -122,51 +115,51 @@ fn try_widths(
     let bits = 8 * parts.data.len().saturating_sub(1);
     let left = left(rows.remainder);
     if left.is_some_and(|left| left > 0) {
-        outcome.count("widths and Left, not 0".to_string());
+        counts.count("widths and Left, not 0");
     }
     let is_kept = left.is_some_and(|left| widths.sum::<usize>() + left == bits);
     (!is_kept).then_some("widths and Left equal the bits after the selector")
 }
 
 /// What the fewer records changed.
-fn count(fewer: &Rows, more: &Rows, outcome: &mut Outcome) {
+fn count(fewer: &Rows, more: &Rows, counts: &mut Counts) {
     if fewer == more {
-        outcome.count("same report".to_string());
+        counts.count("same report");
     }
     for (fewer, more) in fewer.items.iter().zip(&more.items) {
         match (unknown_number(fewer), unknown_number(more)) {
-            (Some(number), None) => outcome.count(format!("item turned Unknown {number}")),
+            (Some(number), None) => counts.count(&format!("item turned Unknown {number}")),
             (Some(a), Some(b)) if a != b => {
-                outcome.count("item of another Unknown number".to_string());
+                counts.count("item of another Unknown number");
             }
             _ => {}
         }
     }
     if fewer.items.len() < more.items.len() {
-        outcome.count("item lines missing".to_string());
+        counts.count("item lines missing");
     }
-    count_remainders(fewer.remainder, more.remainder, outcome);
+    count_remainders(fewer.remainder, more.remainder, counts);
     let names = ["", "Clear", "Flagged", "Unknown"];
     let [before, after] = [more, fewer].map(|rows| names[usize::from(rows.verdict)]);
     if before == after {
-        outcome.count(format!("{before} stays"));
+        counts.count(&format!("{before} stays"));
     } else {
-        outcome.count(format!("{before} turned {after}"));
+        counts.count(&format!("{before} turned {after}"));
     }
 }
 
-fn count_remainders(fewer: &[u8], more: &[u8], outcome: &mut Outcome) {
+fn count_remainders(fewer: &[u8], more: &[u8], counts: &mut Counts) {
     match (unknown_number(fewer), unknown_number(more)) {
-        (Some(8), Some(8)) => outcome.count("layout in neither".to_string()),
+        (Some(8), Some(8)) => counts.count("layout in neither"),
         (Some(number), other) if other != Some(number) => {
-            outcome.count(format!("remainder turned Unknown {number}"));
+            counts.count(&format!("remainder turned Unknown {number}"));
         }
         _ => {}
     }
     if is_unknown(fewer) && left(more).is_some() {
-        outcome.count("Left turned Unknown".to_string());
+        counts.count("Left turned Unknown");
     }
     if is_unknown(fewer) && is_short(more) {
-        outcome.count("Short turned Unknown".to_string());
+        counts.count("Short turned Unknown");
     }
 }

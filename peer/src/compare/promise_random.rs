@@ -58,36 +58,3 @@ fn take_away(records: &mut Vec<Bytes>, random: &mut Random) {
         }
     }
 }
-
-#[cfg(test)]
-mod tests {
-    use super::*;
-    use crate::frame::reader;
-    use crate::supplement;
-    use crate::supplement::kind::KINDS;
-    use crate::supplement::walk::Walk;
-    use std::collections::HashSet;
-
-    fn records(supplement: &[u8]) -> HashSet<&[u8]> {
-        Walk::new(&KINDS, supplement)
-            .map(|record| record.bytes)
-            .collect()
-    }
-
-    #[test]
-    fn all_are_accepted_and_the_first_stands_in_the_second() {
-        let mut random = Random::new(91);
-        let mut other_orders = 0;
-        for _ in 0..5_000 {
-            let pair = pair(&mut random);
-            assert_eq!(supplement::answer(&pair.more), 0);
-            assert_eq!(supplement::answer(&pair.fewer), 0);
-            let (first, response) = pair.frame.runs();
-            assert!(reader::read(&first, &response).is_ok());
-            assert!(records(&pair.fewer).is_subset(&records(&pair.more)));
-            let is_start = pair.more.starts_with(&pair.fewer);
-            other_orders += u32::from(!is_start);
-        }
-        assert!(other_orders > 3_000, "{other_orders}");
-    }
-}

@@ -2,14 +2,15 @@
 //! every refusal comes often.
 
 use super::{frame_random, supplement_random};
+use crate::case::Case;
 use crate::random::Random;
-use crate::report::case::{ReportCase, LONGEST};
+use crate::report::line::LONGEST;
 use crate::report::neighbours::with_others;
 use crate::report::scene::Scene;
 use crate::report::scene_random::scene;
 use crate::supplement::draft::{add_distinct, kinds_of_length, shuffle, Bytes, Layouts};
 
-pub fn case(random: &mut Random) -> ReportCase {
+pub fn case(random: &mut Random) -> Case {
     let scene = scene(random);
     let mut records = with_others(&scene, random);
     let mut runs = scene.frame.runs();
@@ -27,7 +28,7 @@ pub fn case(random: &mut Random) -> ReportCase {
         9..=13 => drop_some(&mut records, random),
         _ => {}
     }
-    let case = ReportCase::new(records.concat(), runs);
+    let case = Case::report(records.concat(), runs);
     let out_length = out_length(&case, random);
     case.lent(out_length)
 }
@@ -60,7 +61,7 @@ fn drop_some(records: &mut Vec<Bytes>, random: &mut Random) {
 }
 
 /// Mostly enough; one in eight is near the need.
-fn out_length(case: &ReportCase, random: &mut Random) -> usize {
+fn out_length(case: &Case, random: &mut Random) -> usize {
     if !random.once_in(8) {
         return LONGEST + random.below(10);
     }

@@ -54,10 +54,14 @@ impl Draft {
     pub fn around(bytes: &[u8], random: &mut Random) -> Draft {
         let (header, data) = bytes.split_at(header_length(bytes[0]));
         let shortest = usize::from(kind_of_run(bytes) != Some(0));
+        Draft::new(header, data, &random.bytes(shortest))
+    }
+
+    pub fn new(header: &[u8], data: &[u8], response: &[u8]) -> Draft {
         Draft {
             header: header.to_vec(),
             data: data.to_vec(),
-            response: random.bytes(shortest),
+            response: response.to_vec(),
         }
     }
 
@@ -133,32 +137,5 @@ pub fn response_of(first_byte: u8, length: usize, random: &mut Random) -> Vec<u8
     match (response_kind(first_byte), length) {
         (Some(3), 1..) => checked(&random.bytes(length - 1)),
         _ => random.bytes(length),
-    }
-}
-
-#[cfg(test)]
-mod tests {
-    use super::*;
-    use crate::frame::reader;
-
-    #[test]
-    fn first_bytes_have_every_kind_and_form() {
-        for (place, first_byte) in FIRST_BYTES.iter().enumerate().take(8) {
-            assert_eq!(response_kind(*first_byte), Some(place as u8 % 4));
-            assert_eq!(header_length(*first_byte), if place < 4 { 3 } else { 1 });
-        }
-        assert_eq!((response_kind(0xA5), header_length(0xA5)), (None, 3));
-        assert_eq!((response_kind(0x37), header_length(0x37)), (None, 1));
-    }
-
-    #[test]
-    fn random_drafts_are_acceptable() {
-        let mut random = Random::new(10);
-        for _ in 0..5000 {
-            let draft = Draft::random(&mut random);
-            let (first, response) = draft.runs();
-            assert_eq!(reader::refusals(&first, &response), []);
-            assert_eq!(draft.length(), first.len() + response.len());
-        }
     }
 }

@@ -1,5 +1,7 @@
 //! The lines of a report and their rows.
 
+use crate::supplement::kind::PLACES;
+
 /// The kinds of row.
 pub mod row_kind {
     pub const NUMBER: u8 = 1;
@@ -16,7 +18,18 @@ pub mod row_kind {
 }
 
 /// The body's length by kind of row, from kind 1 on.
-pub const BODIES: [usize; 11] = [8, 4, 4, 4, 4, 4, 0, 1, 1, 1, 1];
+const BODIES: [usize; 11] = [8, 4, 4, 4, 4, 4, 0, 1, 1, 1, 1];
+
+/// The length of a row of this kind, kind byte and body.
+pub const fn row_length(kind: u8) -> Option<usize> {
+    match kind {
+        row_kind::NUMBER..=row_kind::VERDICT => Some(1 + BODIES[kind as usize - 1]),
+        _ => None,
+    }
+}
+
+/// The longest report: sixteen Numbers, remainder, response and verdict.
+pub const LONGEST: usize = PLACES * (1 + BODIES[0]) + 3 * (1 + BODIES[8]);
 
 /// The Unknown numbers.
 pub mod unknown {
@@ -134,7 +147,7 @@ mod tests {
         for (place, line) in lines.iter().enumerate() {
             let row = row(line);
             assert_eq!(usize::from(row[0]), place + 1);
-            assert_eq!(row.len(), 1 + BODIES[place]);
+            assert_eq!(Some(row.len()), row_length(row[0]));
         }
     }
 

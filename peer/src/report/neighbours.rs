@@ -70,33 +70,3 @@ fn add_new(records: &mut Vec<Bytes>, record: Bytes) {
         records.push(record);
     }
 }
-
-#[cfg(test)]
-mod tests {
-    use super::*;
-    use crate::report::case::ReportCase;
-    use crate::report::scene_random::scene;
-
-    #[test]
-    fn scenes_with_others_are_accepted() {
-        let mut random = Random::new(72);
-        let mut others = 0;
-        for _ in 0..5_000 {
-            let scene = scene(&mut random);
-            let records = with_others(&scene, &mut random);
-            others += records.len() - scene.records().len();
-            let case = ReportCase::new(records.concat(), scene.frame.runs());
-            assert_eq!(case.answer().0 & 0xFF, 0, "{case}");
-        }
-        assert!(others > 5_000, "{others}");
-    }
-
-    #[test]
-    fn near_layouts_are_one_field_apart() {
-        let sought = Layout::of_key([0x18, 0, 1, 0]);
-        let keys: Vec<[u8; 4]> = near_layouts(&sought).iter().map(Layout::key).collect();
-        assert!(keys.contains(&[0x38, 0, 1, 0]) && keys.contains(&[0x08, 0, 1, 0]));
-        assert!(keys.contains(&[0x18, 0, 0, 0]) && keys.contains(&[0x18, 0, 1, 0x80]));
-        assert_eq!(keys.len(), 8 + 2 + 1);
-    }
-}

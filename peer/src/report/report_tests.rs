@@ -1,6 +1,7 @@
-use super::case::{ReportCase, LONGEST};
+use super::line::LONGEST;
 use super::scene::{own_rows, plain, Sample, Scene};
 use super::*;
+use crate::case::Case;
 use crate::frame::check_byte::checked;
 use crate::frame::draft::Draft;
 use crate::random::Random;
@@ -15,9 +16,9 @@ fn bench_supplement() -> Vec<u8> {
     layout_record(&layout.with_prns(&[0x1025, 0x100B]))
 }
 
-fn bench_case(data: &[u8]) -> ReportCase {
+fn bench_case(data: &[u8]) -> Case {
     let first = checked(&[&[0x48, 0x6B, 0x10][..], data].concat());
-    ReportCase::new(bench_supplement(), (first, Vec::new()))
+    Case::report(bench_supplement(), (first, Vec::new()))
 }
 
 #[test]
@@ -48,17 +49,17 @@ fn the_whole_report() {
 fn order_of_refusals() {
     let sound = bench_case(&[0x41, 0x65, 0x80]);
     let mut case = sound.clone().lent(0);
-    case.first[3] ^= 1;
-    case.supplement.push(9);
+    case.inputs[1][3] ^= 1;
+    case.inputs[0].push(9);
     assert_eq!(case.answer(), (refused_answer(11, 38), Vec::new()));
-    case.supplement.pop();
+    case.inputs[0].pop();
     assert_eq!(case.answer(), (3, Vec::new()));
-    case.first = sound.first.clone();
+    case.inputs[1] = sound.inputs[1].clone();
     assert_eq!(case.answer(), (8, Vec::new()));
-    case.supplement = vec![2; 16_385];
+    case.inputs[0] = vec![2; 16_385];
     assert_eq!(case.answer(), (10, Vec::new()));
-    case.supplement = Vec::new();
-    case.first.clear();
+    case.inputs[0] = Vec::new();
+    case.inputs[1].clear();
     assert_eq!(case.answer(), (2, Vec::new()));
 }
 
@@ -67,7 +68,7 @@ fn only_line(sample: Sample) -> Line {
     let mut random = Random::new(61);
     let scene = Scene::holding(0x18, &[sample], &mut random);
     assert_eq!(scene.case().answer().0 & 0xFF, 0);
-    let supplement = scene.case().supplement;
+    let supplement = scene.case().inputs.remove(0);
     let parts = super::scene::parts_of(&scene.frame);
     RULES.report(&Records::of(&supplement), &parts).lines[0]
 }
@@ -182,7 +183,7 @@ fn tables_beside_each_other() {
     let first = checked(&[0x18, 0x41, 0x42, 0x43, 0x44]);
     let rows = |records: &[Vec<u8>]| {
         let supplement = [&[layout_record(&layout)], records].concat().concat();
-        ReportCase::new(supplement, (first.clone(), Vec::new()))
+        Case::report(supplement, (first.clone(), Vec::new()))
             .answer()
             .1
     };
@@ -198,7 +199,7 @@ fn tables_beside_each_other() {
     assert_eq!(all, [&expected[..], &[9, 0, 10, 0, 11, 3]].concat());
     let override_sae = slot_record(&sae::SLOTS[40]);
     let supplement = [layout_record(&layout), override_sae].concat();
-    let case = ReportCase::new(supplement, (first.clone(), Vec::new()));
+    let case = Case::report(supplement, (first.clone(), Vec::new()));
     assert_eq!(case.answer(), (refused_answer(15, 38), Vec::new()));
 }
 

@@ -1,6 +1,7 @@
 //! Rows taken apart again, by their kinds and lengths alone.
 
-use super::line::{row_kind, verdict, BODIES};
+use super::line::{row_kind, row_length, verdict};
+use crate::supplement::kind::PLACES;
 
 /// A report's rows by name; each is its kind and body.
 #[derive(Clone, Debug, PartialEq)]
@@ -17,7 +18,7 @@ pub fn parse(bytes: &[u8]) -> Option<Rows<'_>> {
     let (items, [remainder, response, last]) = rows.split_last_chunk()?;
     let is_among = |row: &[u8], kinds: &[u8]| kinds.contains(&row[0]);
     let (number, unknown) = (row_kind::NUMBER, row_kind::UNKNOWN);
-    let is_sound = items.len() <= 16
+    let is_sound = items.len() <= PLACES
         && items.iter().all(|row| (number..=unknown).contains(&row[0]))
         && is_among(remainder, &[row_kind::SHORT, unknown, row_kind::LEFT])
         && is_among(response, &[unknown, row_kind::ANSWERED])
@@ -36,8 +37,7 @@ fn split(bytes: &[u8]) -> Option<Vec<&[u8]>> {
     let mut rows = Vec::new();
     let mut rest = bytes;
     while let Some(kind) = rest.first() {
-        let place = usize::from(*kind).checked_sub(1)?;
-        let (row, after) = rest.split_at_checked(1 + BODIES.get(place)?)?;
+        let (row, after) = rest.split_at_checked(row_length(*kind)?)?;
         rows.push(row);
         rest = after;
     }

@@ -1,8 +1,8 @@
 //! A frame and the records that tell of it, from which cases are made.
 
 use super::bits::put;
-use super::case::ReportCase;
 use super::layout_key;
+use crate::case::Case;
 use crate::frame::draft::Draft;
 use crate::frame::header::{kind_of_run, response_kind};
 use crate::frame::reader::Parts;
@@ -170,8 +170,8 @@ impl Scene {
         list
     }
 
-    pub fn case(&self) -> ReportCase {
-        ReportCase::new(self.records().concat(), self.frame.runs())
+    pub fn case(&self) -> Case {
+        Case::report(self.records().concat(), self.frame.runs())
     }
 }
 
@@ -197,7 +197,3 @@ pub fn plain(place: u16, width: u8, raw: u64) -> Sample {
     let (prn, slot) = own_rows(place, crate::sae::form::UNM, width);
     Sample::own(prn, Some(slot), raw)
 }
-
-#[cfg(test)]
-#[path = "scene_tests.rs"]
-mod tests;

@@ -173,31 +173,3 @@ pub fn shuffle<T>(list: &mut [T], random: &mut Random) {
         list.swap(last, random.below(last + 1));
     }
 }
-
-#[cfg(test)]
-mod tests {
-    use super::*;
-    use crate::supplement::answer;
-
-    #[test]
-    fn random_records_are_acceptable() {
-        let mut random = Random::new(21);
-        for _ in 0..3000 {
-            let kinds: Vec<u8> = (0..6).map(|_| random_kind(&mut random)).collect();
-            let records = distinct(&kinds, &mut random);
-            assert_eq!(answer(&records.concat()), 0, "{records:?}");
-        }
-    }
-
-    #[test]
-    fn lengths_are_met() {
-        let mut random = Random::new(22);
-        for length in (228..500).chain([16_383, 16_384, 16_385]) {
-            for layouts in [Layouts::Few, Layouts::Many] {
-                let kinds = kinds_of_length(length, layouts, &mut random);
-                let supplement = distinct(&kinds, &mut random).concat();
-                assert_eq!(supplement.len(), length);
-            }
-        }
-    }
-}

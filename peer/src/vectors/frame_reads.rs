@@ -1,13 +1,13 @@
 //! The reader's cases.
 
-use crate::frame::case::FrameCase;
+use crate::case::Case;
 use crate::frame::check_byte::{check_byte, checked, register, PUBLISHED};
 use crate::frame::draft::{first_run_of, response_of, starting_with, Draft, FIRST_BYTES};
 use crate::frame::header::{header_length, kind_of_run, response_kind};
 use crate::frame::MOST_BYTES;
 use crate::random::Random;
 
-pub fn cases(random: &mut Random) -> Vec<FrameCase> {
+pub fn cases(random: &mut Random) -> Vec<Case> {
     let groups = [
         every_first_byte(random),
         every_split(random),
@@ -20,7 +20,7 @@ pub fn cases(random: &mut Random) -> Vec<FrameCase> {
         sound_frames(random),
     ];
     let runs = groups.into_iter().flatten();
-    runs.map(FrameCase::read).collect()
+    runs.map(Case::read).collect()
 }
 
 type Runs = (Vec<u8>, Vec<u8>);

@@ -1,8 +1,8 @@
 //! The bench cases and the easy errors, with the answers that the papers print:
 //! written by hand, not computed by the rules.
 
+use crate::case::Case;
 use crate::frame::check_byte::{check_byte, checked};
-use crate::report::case::ReportCase;
 use crate::report::scene::own_rows;
 use crate::sae::form::{SNM, UNM};
 use crate::sae::{prn_row, slot_row, Prn};
@@ -13,19 +13,12 @@ use crate::supplement::refused_answer;
 /// A case by name, with its number and its rows.
 pub struct Bench {
     pub name: &'static str,
-    pub case: ReportCase,
+    pub case: Case,
     pub number: u64,
     pub rows: Vec<u8>,
 }
 
-impl Bench {
-    /// It is this case, and the rules give what is printed.
-    pub fn is_given_by(&self, case: &ReportCase) -> bool {
-        self.case == *case && case.answer() == (self.number, self.rows.clone())
-    }
-}
-
-fn accepted(name: &'static str, case: ReportCase, rows: &[&[u8]]) -> Bench {
+fn accepted(name: &'static str, case: Case, rows: &[&[u8]]) -> Bench {
     let rows = rows.concat();
     Bench {
         name,
@@ -35,7 +28,7 @@ fn accepted(name: &'static str, case: ReportCase, rows: &[&[u8]]) -> Bench {
     }
 }
 
-fn refused(name: &'static str, case: ReportCase, number: u64) -> Bench {
+fn refused(name: &'static str, case: Case, number: u64) -> Bench {
     let rows = Vec::new();
     Bench {
         name,
@@ -62,9 +55,9 @@ fn layout(prns: &[u16]) -> Bytes {
 }
 
 /// A frame of the whole report's header and selector with these items.
-fn case(supplement: Vec<u8>, items: &[u8]) -> ReportCase {
+fn case(supplement: Vec<u8>, items: &[u8]) -> Case {
     let first = checked(&[&[0x48, 0x6B, 0x10, 0x41], items].concat());
-    ReportCase::new(supplement, (first, Vec::new()))
+    Case::report(supplement, (first, Vec::new()))
 }
 
 fn number(value: f64) -> Vec<u8> {
@@ -104,7 +97,7 @@ fn full_frames() -> Vec<Bench> {
     let key = [0x18, 0, 1, 0x41];
     let nine = layout_record(&Layout::of_key(key).with_prns(&[0x1025; 9]));
     let ten_data = checked(&[0x18, 0x41, 1, 2, 3, 4, 5, 6, 7, 8, 9]);
-    let one_byte_form = ReportCase::new(nine, (ten_data, Vec::new()));
+    let one_byte_form = Case::report(nine, (ten_data, Vec::new()));
     let mut counted: Vec<u8> = (1..=9).flat_map(|value| number(value.into())).collect();
     counted.extend(CLEAR);
     let bare = layout_record(&Layout::of_key([0x00, 0x6B, 0, 0]));
@@ -114,19 +107,19 @@ fn full_frames() -> Vec<Bench> {
         accepted("ten data bytes with H = 1", one_byte_form, &[&counted]),
         accepted(
             "twelve bytes with a response",
-            ReportCase::new(bare, answered),
+            Case::report(bare, answered),
             &[&[9, 0, 10, 2, 11, 1]],
         ),
     ]
 }
 
 /// An item by a PRN of the supplement that names a SLOT of the SAE tables.
-fn of_slot(width: u8, slot: u16, items: &[u8]) -> ReportCase {
+fn of_slot(width: u8, slot: u16, items: &[u8]) -> Case {
     let prn = prn_record(&Prn::new(0x2000, UNM, width, slot));
     case([layout(&[0x2000]), prn].concat(), items)
 }
 
-fn signed(raw: u8) -> ReportCase {
+fn signed(raw: u8) -> Case {
     let (prn, slot) = own_rows(0, SNM, 8);
     let records = [layout(&[prn.prn]), prn_record(&prn), slot_record(&slot)];
     case(records.concat(), &[raw])
@@ -162,7 +155,7 @@ fn values() -> Vec<Bench> {
 }
 
 fn frames_refused() -> Vec<Bench> {
-    let with_first = |first: Vec<u8>| ReportCase::new(layout(&[]), (first, Vec::new()));
+    let with_first = |first: Vec<u8>| Case::report(layout(&[]), (first, Vec::new()));
     let long = checked(&[0x18; 12]);
     vec![
         refused("P11", with_first(Vec::new()), 2),
@@ -191,7 +184,7 @@ fn kind_3_responses() -> Vec<Bench> {
     let over_data = checked(&[0xAB, 0xCD]);
     let whole = [&first[..], &[0xAB, 0xCD]].concat();
     let over_frame = vec![0xAB, 0xCD, check_byte(&whole)];
-    let case = |response| ReportCase::new(layout.clone(), (first.clone(), response));
+    let case = |response| Case::report(layout.clone(), (first.clone(), response));
     let rows: [&[u8]; 1] = [&[9, 0, 8, 7, 11, 3]];
     vec![
         accepted(
@@ -229,24 +222,5 @@ mod tests {
             let expected = (bench.number, bench.rows);
             assert_eq!(bench.case.answer(), expected, "{}", bench.name);
         }
-    }
-
-    #[test]
-    fn names_and_lengths() {
-        let list = all();
-        assert_eq!(list[0].rows.len(), 24);
-        assert_eq!(
-            list[0].case.first[..6],
-            [0x48, 0x6B, 0x10, 0x41, 0x65, 0x80]
-        );
-        for (place, bench) in list.iter().enumerate() {
-            assert!(list[..place].iter().all(|other| other.name != bench.name));
-            assert!(list[..place].iter().all(|other| other.case != bench.case));
-        }
-        let full = list
-            .iter()
-            .find(|bench| bench.name == "twelve bytes")
-            .unwrap();
-        assert_eq!(full.case.first.len(), 12);
     }
 }

@@ -1,9 +1,10 @@
 //! Frames and layouts that meet or miss each other, refusals in their order,
 //! and lent outputs of each length.
 
+use crate::case::Case;
 use crate::frame::check_byte::checked;
 use crate::random::Random;
-use crate::report::case::{ReportCase, LONGEST};
+use crate::report::line::LONGEST;
 use crate::report::neighbours::near_layouts;
 use crate::report::scene::{frame, Sample, Scene};
 use crate::report::scene_random::scene;
@@ -18,7 +19,7 @@ use crate::supplement::{refusal, MOST_BYTES};
 /// The longest output that a case lends.
 pub const MOST_LENT: usize = 158;
 
-pub fn cases(random: &mut Random) -> Vec<ReportCase> {
+pub fn cases(random: &mut Random) -> Vec<Case> {
     let groups = [
         first_bytes(random),
         kinds(random),
@@ -34,7 +35,7 @@ pub fn cases(random: &mut Random) -> Vec<ReportCase> {
 }
 
 /// Each first byte with a layout for it.
-fn first_bytes(random: &mut Random) -> Vec<ReportCase> {
+fn first_bytes(random: &mut Random) -> Vec<Case> {
     let items = [Sample::sae(0x1025, 0x65)];
     (0..=255)
         .map(|first_byte| Scene::holding(first_byte, &items, random).case())
@@ -43,7 +44,7 @@ fn first_bytes(random: &mut Random) -> Vec<ReportCase> {
 
 /// Each kind and form, with and without data, with the response at its
 /// shortest and longer.
-fn kinds(random: &mut Random) -> Vec<ReportCase> {
+fn kinds(random: &mut Random) -> Vec<Case> {
     let mut list = Vec::new();
     for first_byte in crate::frame::draft::FIRST_BYTES {
         for data in [0, 1, 2] {
@@ -51,7 +52,7 @@ fn kinds(random: &mut Random) -> Vec<ReportCase> {
             list.push(scene.case());
             scene.add(&Sample::sae(0x1025, 0x65));
             list.push(scene.case());
-            list.push(ReportCase::new(Vec::new(), scene.frame.runs()));
+            list.push(Case::report(Vec::new(), scene.frame.runs()));
             let more = random.bytes(2);
             scene.frame.response.extend(more);
             list.push(scene.case());
@@ -61,7 +62,7 @@ fn kinds(random: &mut Random) -> Vec<ReportCase> {
 }
 
 /// Layouts one field away from the one sought, without it and around it.
-fn near_keys(random: &mut Random) -> Vec<ReportCase> {
+fn near_keys(random: &mut Random) -> Vec<Case> {
     let mut list = Vec::new();
     for first_byte in [0xF8, 0x12, 0xE8, 0x00] {
         for data in [vec![], vec![0, 0x65], vec![0x41, 0x65]] {
@@ -74,13 +75,13 @@ fn near_keys(random: &mut Random) -> Vec<ReportCase> {
             for (place, other) in near.iter().enumerate() {
                 let mut all = near.clone();
                 all.insert(place, sought.clone());
-                list.push(ReportCase::new(other.clone(), scene.frame.runs()));
+                list.push(Case::report(other.clone(), scene.frame.runs()));
                 if place < 3 {
-                    list.push(ReportCase::new(all.concat(), scene.frame.runs()));
+                    list.push(Case::report(all.concat(), scene.frame.runs()));
                 }
             }
             let last = [near.concat(), sought].concat();
-            list.push(ReportCase::new(last, scene.frame.runs()));
+            list.push(Case::report(last, scene.frame.runs()));
         }
     }
     list
@@ -121,26 +122,26 @@ fn bench_layout() -> Bytes {
 
 /// Each refusal of the supplement beside each of the frame, with an output
 /// lent and without.
-fn refusals(random: &mut Random) -> Vec<ReportCase> {
+fn refusals(random: &mut Random) -> Vec<Case> {
     let mut list = Vec::new();
     for of_frame in 0..=6 {
         for out_length in [0, 5, LONGEST] {
-            let sound = ReportCase::new(bench_layout(), runs(of_frame, random));
+            let sound = Case::report(bench_layout(), runs(of_frame, random));
             list.push(sound.clone().lent(out_length));
             for number in refusal::UNKNOWN_KIND..=refusal::IN_SAE {
                 let mut case = sound.clone().lent(out_length);
-                case.supplement.extend(faulty_record(number));
+                case.inputs[0].extend(faulty_record(number));
                 list.push(case);
             }
         }
     }
     let prn_again = [bench_layout(), prn_record(&PRNS[100])].concat();
-    list.push(ReportCase::new(prn_again, runs(0, random)));
+    list.push(Case::report(prn_again, runs(0, random)));
     list
 }
 
 /// Each refusal of the supplement at a place of two bytes.
-fn high_places(random: &mut Random) -> Vec<ReportCase> {
+fn high_places(random: &mut Random) -> Vec<Case> {
     let mut list = Vec::new();
     for number in refusal::UNKNOWN_KIND..=refusal::IN_SAE {
         let kinds = kinds_of_length(250 + usize::from(number), Layouts::Few, random);
@@ -149,13 +150,13 @@ fn high_places(random: &mut Random) -> Vec<ReportCase> {
             refusal::SEEN_BEFORE => records[0].clone(),
             _ => faulty_record(number),
         });
-        list.push(ReportCase::new(records.concat(), runs(0, random)));
+        list.push(Case::report(records.concat(), runs(0, random)));
     }
     list
 }
 
 /// Supplements as long as can be and longer.
-fn sizes(random: &mut Random) -> Vec<ReportCase> {
+fn sizes(random: &mut Random) -> Vec<Case> {
     let layout = bench_layout();
     let mut others = kinds_of_length(MOST_BYTES - layout.len(), Layouts::Few, random);
     others.sort();
@@ -164,7 +165,7 @@ fn sizes(random: &mut Random) -> Vec<ReportCase> {
     let most = records.concat();
     let longer = [&most[..], &[9]].concat();
     let with_runs = |supplement: &[u8], number: u8, random: &mut Random| {
-        ReportCase::new(supplement.to_vec(), runs(number, random))
+        Case::report(supplement.to_vec(), runs(number, random))
     };
     vec![
         with_runs(&most, 0, random),
@@ -175,7 +176,7 @@ fn sizes(random: &mut Random) -> Vec<ReportCase> {
 }
 
 /// Reports of many lengths with outputs about their length.
-fn lent(random: &mut Random) -> Vec<ReportCase> {
+fn lent(random: &mut Random) -> Vec<Case> {
     let mut list = Vec::new();
     for _ in 0..25 {
         let case = scene(random).case();
@@ -188,7 +189,7 @@ fn lent(random: &mut Random) -> Vec<ReportCase> {
 }
 
 /// The longest report with every length lent.
-fn lent_longest(random: &mut Random) -> Vec<ReportCase> {
+fn lent_longest(random: &mut Random) -> Vec<Case> {
     let prn = Prn::new(0x2000, UNM, 4, 1);
     let items: Vec<Sample> = (0..16).map(|raw| Sample::own(prn, None, raw)).collect();
     let case = Scene::holding(0x18, &items, random).case();
@@ -199,7 +200,7 @@ fn lent_longest(random: &mut Random) -> Vec<ReportCase> {
 
 /// Random scenes, now and then without one of their records or with a bit
 /// turned over.
-fn random_scenes(random: &mut Random) -> Vec<ReportCase> {
+fn random_scenes(random: &mut Random) -> Vec<Case> {
     let mut list = Vec::new();
     while list.len() < 350 {
         let scene = scene(random);
@@ -210,16 +211,10 @@ fn random_scenes(random: &mut Random) -> Vec<ReportCase> {
         if records.len() > 6 {
             continue;
         }
-        let mut case = ReportCase::new(records.concat(), scene.frame.runs());
+        let mut case = Case::report(records.concat(), scene.frame.runs());
         if random.once_in(6) {
-            let runs = [&mut case.supplement, &mut case.first, &mut case.response];
-            let [a, b, c] = runs;
-            let run = match random.below(3) {
-                0 => a,
-                1 => b,
-                _ => c,
-            };
-            turn_bit(run, random);
+            let run = random.below(3);
+            turn_bit(&mut case.inputs[run], random);
         }
         list.push(case.lent(random.pick(&[LONGEST, LONGEST, 60, MOST_LENT])));
     }
@@ -230,30 +225,5 @@ fn turn_bit(run: &mut [u8], random: &mut Random) {
     if !run.is_empty() {
         let place = random.below(run.len());
         run[place] ^= 1 << random.below(8);
-    }
-}
-
-#[cfg(test)]
-mod tests {
-    use super::*;
-    use crate::frame::reader;
-
-    #[test]
-    fn runs_are_refused_as_they_say() {
-        let mut random = Random::new(81);
-        for number in 0..=6 {
-            let (first, response) = runs(number, &mut random);
-            let refusals = reader::refusals(&first, &response);
-            assert_eq!(refusals.first().copied().unwrap_or(0), number);
-        }
-    }
-
-    #[test]
-    fn records_are_refused_as_they_say() {
-        for number in 11..=15 {
-            let supplement = [bench_layout(), faulty_record(number)].concat();
-            let answer = crate::supplement::answer(&supplement);
-            assert_eq!(answer, u64::from(number) | 38 << 8);
-        }
     }
 }

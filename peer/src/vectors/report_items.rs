@@ -1,7 +1,7 @@
 //! Items of each form and width, cut at each bit, and their values.
 
+use crate::case::Case;
 use crate::random::Random;
-use crate::report::case::ReportCase;
 use crate::report::item::limits;
 use crate::report::scene::{own_rows, Sample, Scene};
 use crate::report::scene_random::{own_slot, raw};
@@ -9,7 +9,7 @@ use crate::sae::form::*;
 use crate::sae::{all_ones, Slot};
 use crate::supplement::draft::random_slot;
 
-pub fn cases(random: &mut Random) -> Vec<ReportCase> {
+pub fn cases(random: &mut Random) -> Vec<Case> {
     let groups = [
         cuts(random),
         forms_and_widths(random),
@@ -28,7 +28,7 @@ const MOST_BITS: usize = 72;
 
 /// Each width at each bit of a byte, after whole bytes as far as there is
 /// room, and one more item behind it.
-fn cuts(random: &mut Random) -> Vec<ReportCase> {
+fn cuts(random: &mut Random) -> Vec<Case> {
     let mut list = Vec::new();
     for width in 1..=64 {
         for bit in 0..8 {
@@ -44,7 +44,7 @@ fn cuts(random: &mut Random) -> Vec<ReportCase> {
     list
 }
 
-fn cut(item: Sample, bit: usize, random: &mut Random) -> ReportCase {
+fn cut(item: Sample, bit: usize, random: &mut Random) -> Case {
     let room = MOST_BITS - bit - item.width();
     let mut samples = vec![Sample::sae(0x1025, random.number()); random.below(room / 8 + 1)];
     let room = room - 8 * samples.len();
@@ -61,7 +61,7 @@ fn cut(item: Sample, bit: usize, random: &mut Random) -> ReportCase {
 }
 
 /// Each form at each width, with limits of its own.
-fn forms_and_widths(random: &mut Random) -> Vec<ReportCase> {
+fn forms_and_widths(random: &mut Random) -> Vec<Case> {
     let mut list = Vec::new();
     for form in UNM..=PKT {
         for width in 1..=64 {
@@ -81,7 +81,7 @@ fn forms_and_widths(random: &mut Random) -> Vec<ReportCase> {
 
 /// Numbers and states of each width at their limits and one beyond, one PRN
 /// for all of them.
-fn limits_of_widths(random: &mut Random) -> Vec<ReportCase> {
+fn limits_of_widths(random: &mut Random) -> Vec<Case> {
     let mut list = Vec::new();
     for form in [UNM, SNM, SED] {
         for width in 1..=32 {
@@ -115,7 +115,7 @@ fn scaled(place: u16, form: u8, width: u8, scale: (u16, u16, i32), raw: u64) -> 
 }
 
 /// Two numbers of random scales in one frame.
-fn values(random: &mut Random) -> Vec<ReportCase> {
+fn values(random: &mut Random) -> Vec<Case> {
     let mut list = Vec::new();
     for _ in 0..220 {
         let items = [0, 1].map(|place| {
@@ -131,7 +131,7 @@ fn values(random: &mut Random) -> Vec<ReportCase> {
 }
 
 /// Every field of a value at its ends.
-fn ends_of_fields(random: &mut Random) -> Vec<ReportCase> {
+fn ends_of_fields(random: &mut Random) -> Vec<Case> {
     let mut list = Vec::new();
     for offset in [i32::MIN, -1, 0, 1, i32::MAX] {
         for multiplier in [0, 1, 65535] {
@@ -147,7 +147,7 @@ fn ends_of_fields(random: &mut Random) -> Vec<ReportCase> {
 }
 
 /// Whole numbers above the line that come out as zero.
-fn zeros(random: &mut Random) -> Vec<ReportCase> {
+fn zeros(random: &mut Random) -> Vec<Case> {
     let mut list = Vec::new();
     for (form, scale, raw) in [
         (SNM, (8, 7, 40), -5_i64),
@@ -164,7 +164,7 @@ fn zeros(random: &mut Random) -> Vec<ReportCase> {
 }
 
 /// Each byte by itself, and bytes about the ends in each place of a text.
-fn texts(random: &mut Random) -> Vec<ReportCase> {
+fn texts(random: &mut Random) -> Vec<Case> {
     let mut list = Vec::new();
     let (prn, slot) = own_rows(0, ASC, 8);
     let bytes: Vec<Sample> = (0..=255)
@@ -187,7 +187,7 @@ fn texts(random: &mut Random) -> Vec<ReportCase> {
 }
 
 /// Each digit by itself, and digits about 9 in each place.
-fn digits(random: &mut Random) -> Vec<ReportCase> {
+fn digits(random: &mut Random) -> Vec<Case> {
     let (prn, slot) = own_rows(0, BCD, 4);
     let each: Vec<Sample> = (0..16)
         .map(|digit| Sample::own(prn, Some(slot), digit))

@@ -1,12 +1,12 @@
 //! Items one after another: places kept, lost and past, counts and verdicts.
 
+use crate::case::Case;
 use crate::random::Random;
-use crate::report::case::ReportCase;
 use crate::report::scene::{frame, own_rows, Sample, Scene};
 use crate::sae::form::*;
 use crate::sae::{Prn, Slot};
 
-pub fn cases(random: &mut Random) -> Vec<ReportCase> {
+pub fn cases(random: &mut Random) -> Vec<Case> {
     let groups = [
         sequences(random),
         counts(random),
@@ -36,7 +36,7 @@ fn items() -> [Sample; 9] {
 
 /// Each pair of items, and threes of the more telling ones. A frame has 56
 /// bits for them, too few for the longest.
-fn sequences(random: &mut Random) -> Vec<ReportCase> {
+fn sequences(random: &mut Random) -> Vec<Case> {
     let items = items();
     let mut list = Vec::new();
     for a in items {
@@ -56,7 +56,7 @@ fn sequences(random: &mut Random) -> Vec<ReportCase> {
 }
 
 /// Both forms by turns, if the data fit both.
-fn in_frame(samples: &[Sample], data: usize, random: &mut Random) -> ReportCase {
+fn in_frame(samples: &[Sample], data: usize, random: &mut Random) -> Case {
     let first_byte = match data {
         ..=8 => random.pick(&[0x18, 0x48]),
         _ => 0x18,
@@ -69,7 +69,7 @@ fn in_frame(samples: &[Sample], data: usize, random: &mut Random) -> ReportCase 
 }
 
 /// Each count of items: the data filled, a byte more, and a byte less.
-fn counts(random: &mut Random) -> Vec<ReportCase> {
+fn counts(random: &mut Random) -> Vec<Case> {
     let mut list = Vec::new();
     for count in 0..=16 {
         let mut samples = vec![Sample::sae(0x1000, 1); count];
@@ -92,7 +92,7 @@ fn counts(random: &mut Random) -> Vec<ReportCase> {
 
 /// Two rules that apply to one item: the last item is lost, past or inside,
 /// and has or lacks each of the rest.
-fn rules_together(random: &mut Random) -> Vec<ReportCase> {
+fn rules_together(random: &mut Random) -> Vec<Case> {
     let mut list = Vec::new();
     let missing = Sample::missing(0x2010);
     let long = Sample::own(Prn::new(0x2003, UNM, 64, 1), None, 0);
@@ -129,7 +129,7 @@ fn odd_items() -> Vec<Sample> {
 }
 
 /// Each Unknown number where all else is shown, and beside what is Flagged.
-fn unknown_alone(random: &mut Random) -> Vec<ReportCase> {
+fn unknown_alone(random: &mut Random) -> Vec<Case> {
     let items = items();
     let mut list = Vec::new();
     for (place, item) in items.iter().enumerate() {
@@ -156,14 +156,14 @@ fn unknown_alone(random: &mut Random) -> Vec<ReportCase> {
     list
 }
 
-fn in_kind_3(first_byte: u8, samples: &[Sample], data: usize, random: &mut Random) -> ReportCase {
+fn in_kind_3(first_byte: u8, samples: &[Sample], data: usize, random: &mut Random) -> Case {
     let mut scene = Scene::of(frame(first_byte, data, random));
     samples.iter().for_each(|sample| scene.add(sample));
     scene.case()
 }
 
 /// Every number of bits that can be left.
-fn lefts(random: &mut Random) -> Vec<ReportCase> {
+fn lefts(random: &mut Random) -> Vec<Case> {
     let mut list = Vec::new();
     for left in 0..=72_usize {
         let data = 1 + left.div_ceil(8);

@@ -1,7 +1,7 @@
 //! Items of both tables: each SAE row, and PRNs and SLOTs from each side.
 
+use crate::case::Case;
 use crate::random::Random;
-use crate::report::case::ReportCase;
 use crate::report::item::limits;
 use crate::report::scene::{own_rows, whole_slot, Sample, Scene, OWN_PRN};
 use crate::report::scene_random::raw;
@@ -9,7 +9,7 @@ use crate::sae::form::*;
 use crate::sae::{all_ones, slot_row, Prn, Slot, PRNS, SLOTS};
 use crate::supplement::draft::shuffle;
 
-pub fn cases(random: &mut Random) -> Vec<ReportCase> {
+pub fn cases(random: &mut Random) -> Vec<Case> {
     let groups = [
         sae_prns(random),
         sae_slots(random),
@@ -27,7 +27,7 @@ fn first_byte(place: usize) -> u8 {
 }
 
 /// Each PRN with bits that its SLOT takes, or any.
-fn sae_prns(random: &mut Random) -> Vec<ReportCase> {
+fn sae_prns(random: &mut Random) -> Vec<Case> {
     let mut list = Vec::new();
     for (place, row) in PRNS.iter().enumerate() {
         let raw = match slot_row(row.slot_key()) {
@@ -41,7 +41,7 @@ fn sae_prns(random: &mut Random) -> Vec<ReportCase> {
 }
 
 /// Each SLOT at its limits and beside them, through a PRN of the supplement.
-fn sae_slots(random: &mut Random) -> Vec<ReportCase> {
+fn sae_slots(random: &mut Random) -> Vec<Case> {
     let mut list = Vec::new();
     for slot in SLOTS {
         let mut raws = raws_of(slot, random);
@@ -79,7 +79,7 @@ fn raws_of(slot: &Slot, random: &mut Random) -> Vec<u64> {
 }
 
 /// SAE rows whose SLOT the tables lack, with one from the supplement.
-fn sae_prns_with_own_slots(random: &mut Random) -> Vec<ReportCase> {
+fn sae_prns_with_own_slots(random: &mut Random) -> Vec<Case> {
     let mut list = Vec::new();
     let mut keys = Vec::new();
     for row in PRNS {
@@ -99,7 +99,7 @@ fn sae_prns_with_own_slots(random: &mut Random) -> Vec<ReportCase> {
 }
 
 /// PRN and SLOT each from the SAE tables, from the supplement or from none.
-fn sources(random: &mut Random) -> Vec<ReportCase> {
+fn sources(random: &mut Random) -> Vec<Case> {
     let (own, slot) = own_rows(0, BMP, 8);
     let text = whole_slot(ASC, 8, 11);
     let choices = [
@@ -125,7 +125,7 @@ fn sources(random: &mut Random) -> Vec<ReportCase> {
 
 /// PRNs that name a SLOT one field away from one of the SAE tables or of the
 /// supplement.
-fn near_slots(random: &mut Random) -> Vec<ReportCase> {
+fn near_slots(random: &mut Random) -> Vec<Case> {
     let mut list = Vec::new();
     for (form, width, number) in [(UNM, 8, 101), (BMP, 8, 1), (SED, 8, 7), (UNM, 8, 1000)] {
         for (form, width, number) in [
@@ -145,7 +145,7 @@ fn near_slots(random: &mut Random) -> Vec<ReportCase> {
 }
 
 /// One scene with its records in several orders, and others among them.
-fn orders(random: &mut Random) -> Vec<ReportCase> {
+fn orders(random: &mut Random) -> Vec<Case> {
     let mut list = Vec::new();
     for _ in 0..24 {
         let rows = [
@@ -157,7 +157,7 @@ fn orders(random: &mut Random) -> Vec<ReportCase> {
         let scene = Scene::holding(0x18, &samples, random);
         let mut records = scene.records();
         shuffle(&mut records, random);
-        list.push(ReportCase::new(records.concat(), scene.frame.runs()));
+        list.push(Case::report(records.concat(), scene.frame.runs()));
     }
     list
 }

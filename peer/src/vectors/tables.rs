@@ -40,27 +40,3 @@ fn summary() -> String {
         SLOTS.len()
     )
 }
-
-#[cfg(test)]
-mod tests {
-    use super::*;
-
-    #[test]
-    fn lines_have_fixed_columns() {
-        let (files, _, _) = make();
-        let lines: Vec<&str> = files.stdout.lines().collect();
-        assert_eq!(lines.len(), PRNS.len() + SLOTS.len());
-        assert_eq!(lines[0], "P 0000 04 20 0001");
-        assert!(lines.contains(&"P 1025 01 08 0065"));
-        assert!(lines.contains(&"S 01 08 0052 0003 0004 fffffe98 00000000 000000f0"));
-        assert!(lines.contains(&"S 02 08 0015 0001 0001 00000000 ffffff80 0000007f"));
-        assert_eq!(
-            lines.last(),
-            Some(&"S 06 38 0001 0001 0001 00000000 00000000 ffffffff")
-        );
-        assert!(files.stdout.ends_with('\n') && files.stdin.is_empty());
-        assert!(!files
-            .stdout
-            .contains(|letter| ('A'..='F').contains(&letter)));
-    }
-}
