@@ -41,11 +41,6 @@ pub fn kind_of_run(run: &[u8]) -> Option<u8> {
         .and_then(|first_byte| response_kind(*first_byte))
 }
 
-/// The run has a first byte and its type is unassigned.
-pub fn is_unassigned(run: &[u8]) -> bool {
-    !run.is_empty() && kind_of_run(run).is_none()
-}
-
 #[cfg(test)]
 mod tests {
     use super::*;
@@ -70,19 +65,9 @@ mod tests {
     #[test]
     fn kinds_of_k_zero_types() {
         let kinds: Vec<Option<u8>> = (0..8).map(response_kind).collect();
-        let printed = [
-            Some(2),
-            Some(1),
-            Some(2),
-            Some(3),
-            Some(1),
-            None,
-            None,
-            None,
-        ];
-        assert_eq!(kinds, printed);
+        assert_eq!(kinds[..5], [2, 1, 2, 3, 1].map(Some));
+        assert_eq!(kinds[5..], [None; 3]);
         assert_eq!(response_kind(0xF3), Some(3));
-        assert!(!is_unassigned(&[]));
-        assert!(is_unassigned(&[0x15]));
+        assert_eq!(kind_of_run(&[0x15]), None);
     }
 }

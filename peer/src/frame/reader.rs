@@ -1,8 +1,9 @@
 //! Reading: two runs with their check bytes into header, data and response.
 
 use super::check_byte;
-use super::header::{header_length, is_unassigned, kind_of_run};
-use super::{accepted_answer, refusal, MOST_BYTES};
+use super::header::{header_length, response_kind};
+use super::refusal::*;
+use super::{accepted_answer, MOST_BYTES};
 
 /// An accepted frame's parts, without check bytes.
 #[derive(Debug, PartialEq)]
@@ -13,78 +14,47 @@ pub struct Parts<'a> {
     pub response: &'a [u8],
 }
 
-type Test = fn(&[u8], &[u8]) -> bool;
-
-/// The tests in their order; each says by itself whether its refusal applies.
-const TESTS: [(u8, Test); 6] = [
-    (refusal::TOO_LONG, is_too_long),
-    (refusal::FIRST_RUN_SHORT, is_first_run_short),
-    (refusal::CHECK_BYTE, is_check_byte_wrong),
-    (refusal::UNASSIGNED, is_type_unassigned),
-    (refusal::RESPONSE_COUNT, is_response_count_wrong),
-    (refusal::RESPONSE_CHECK_BYTE, is_response_check_byte_wrong),
-];
-
-fn is_too_long(first: &[u8], response: &[u8]) -> bool {
-    first.len().saturating_add(response.len()) > MOST_BYTES
-}
-
-fn is_first_run_short(first: &[u8], _: &[u8]) -> bool {
-    match first.first() {
-        Some(first_byte) => first.len() < header_length(*first_byte) + 1,
-        None => true,
-    }
-}
-
-fn is_check_byte_wrong(first: &[u8], _: &[u8]) -> bool {
-    check_byte::is_wrong(first)
-}
-
-fn is_type_unassigned(first: &[u8], _: &[u8]) -> bool {
-    is_unassigned(first)
-}
-
-fn is_response_count_wrong(first: &[u8], response: &[u8]) -> bool {
-    match kind_of_run(first) {
-        Some(0) => !response.is_empty(),
-        Some(1) => response.len() != 1,
-        Some(2) => response.is_empty(),
-        Some(_) => response.len() < 2,
-        None => false,
-    }
-}
-
-/// A kind 3 check byte is taken over the response's data alone.
-fn is_response_check_byte_wrong(first: &[u8], response: &[u8]) -> bool {
-    kind_of_run(first) == Some(3) && check_byte::is_wrong(response)
-}
-
-/// Every refusal that applies, in the order of the tests.
-pub fn refusals(first: &[u8], response: &[u8]) -> Vec<u8> {
-    let applying = TESTS.iter().filter(|(_, test)| test(first, response));
-    applying.map(|(number, _)| *number).collect()
-}
-
-/// The parts of the frame, or the first refusal that applies.
+/// The parts of the frame, or the refusal of the first test that fails, in the
+/// order 1 to 6.
 pub fn read<'a>(first: &'a [u8], response: &'a [u8]) -> Result<Parts<'a>, u8> {
-    for (number, test) in TESTS {
-        if test(first, response) {
-            return Err(number);
-        }
+    if first.len().saturating_add(response.len()) > MOST_BYTES {
+        return Err(TOO_LONG);
     }
-    let (header, rest) = first.split_at(header_length(first[0]));
-    let kind = kind_of_run(first).expect("an accepted type has a kind");
-    let response_data = if kind == 3 {
-        without_last(response)
-    } else {
-        response
-    };
+    let first_byte = *first.first().ok_or(FIRST_RUN_SHORT)?;
+    let header_length = header_length(first_byte);
+    if first.len() < header_length + 1 {
+        return Err(FIRST_RUN_SHORT);
+    }
+    if check_byte::is_wrong(first) {
+        return Err(CHECK_BYTE);
+    }
+    let kind = response_kind(first_byte).ok_or(UNASSIGNED)?;
+    if is_count_wrong(kind, response) {
+        return Err(RESPONSE_COUNT);
+    }
+    // a kind 3 check byte is taken over the response's data alone
+    if kind == 3 && check_byte::is_wrong(response) {
+        return Err(RESPONSE_CHECK_BYTE);
+    }
+    let (header, rest) = first.split_at(header_length);
     Ok(Parts {
         header,
         data: without_last(rest),
         kind,
-        response: response_data,
+        response: match kind {
+            3 => without_last(response),
+            _ => response,
+        },
     })
+}
+
+fn is_count_wrong(kind: u8, response: &[u8]) -> bool {
+    match kind {
+        0 => !response.is_empty(),
+        1 => response.len() != 1,
+        2 => response.is_empty(),
+        _ => response.len() < 2,
+    }
 }
 
 fn without_last(run: &[u8]) -> &[u8] {

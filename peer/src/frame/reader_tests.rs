@@ -112,14 +112,13 @@ fn addresses_are_not_checked() {
 }
 
 #[test]
-fn lowest_refusal_is_given() {
-    let mut random = Random::new(6);
-    for _ in 0..20_000 {
-        let (a, b) = (random.below(15), random.below(6));
-        let (first, response) = (random.bytes(a), random.bytes(b));
-        let applying = refusals(&first, &response);
-        assert!(applying.windows(2).all(|pair| pair[0] < pair[1]));
-        let expected = applying.first().copied().unwrap_or(0);
-        assert_eq!(answer(&first, &response) & 0xFF, u64::from(expected));
-    }
+fn order_of_the_tests() {
+    let unassigned = checked(&[0x15]);
+    assert_eq!(answer(&[], &[0; 13]), 1);
+    assert_eq!(answer(&[0x05; 13], &[]), 1);
+    assert_eq!(answer(&[0x05, 1, 2], &[]), 2);
+    assert_eq!(answer(&[0x15, !unassigned[1]], &[]), 3);
+    assert_eq!(answer(&unassigned, &[1, 2, 3]), 4);
+    assert_eq!(answer(&checked(&[0x13]), &[1]), 5);
+    assert_eq!(answer(&checked(&[0x13]), &[1, 2]), 6);
 }

@@ -1,8 +1,9 @@
 //! Writing: header, data and response into two runs with their check bytes.
 
 use super::check_byte::checked;
-use super::header::{header_length, is_unassigned, kind_of_run};
-use super::{accepted_answer, refusal, MOST_BYTES};
+use super::header::{header_length, kind_of_run, response_kind};
+use super::refusal::*;
+use super::{accepted_answer, MOST_BYTES};
 
 /// What the writer is given: the parts without check bytes, and the length
 /// of the lent output.
@@ -14,67 +15,13 @@ pub struct Request<'a> {
     pub out_length: usize,
 }
 
-type Test = fn(&Request) -> bool;
-
-/// The tests in their order; each says by itself whether its refusal applies.
-const TESTS: [(u8, Test); 5] = [
-    (refusal::HEADER, is_header_wrong),
-    (refusal::UNASSIGNED, is_type_unassigned),
-    (refusal::RESPONSE_COUNT, is_response_count_wrong),
-    (refusal::TOO_LONG, is_too_long),
-    (refusal::OUTPUT_SHORT, is_output_short),
-];
-
-/// Not the length H says; without a first byte there is no H.
-fn is_header_wrong(request: &Request) -> bool {
-    match request.header.first() {
-        Some(first_byte) => request.header.len() != header_length(*first_byte),
-        None => true,
-    }
-}
-
-fn is_type_unassigned(request: &Request) -> bool {
-    is_unassigned(request.header)
-}
-
-fn is_response_count_wrong(request: &Request) -> bool {
-    match kind_of_run(request.header) {
-        Some(0) => !request.response.is_empty(),
-        Some(1) => request.response.len() != 1,
-        Some(_) => request.response.is_empty(),
-        None => false,
-    }
-}
-
-fn is_too_long(request: &Request) -> bool {
-    result_length(request) > MOST_BYTES
-}
-
-fn is_output_short(request: &Request) -> bool {
-    request.out_length < result_length(request)
-}
-
 /// The length of both runs together, check bytes included.
 pub fn result_length(request: &Request) -> usize {
-    let check_bytes = if kind_of_run(request.header) == Some(3) {
-        2
-    } else {
-        1
-    };
-    let given = [
-        request.header.len(),
-        request.data.len(),
-        request.response.len(),
-    ];
-    given.iter().fold(check_bytes, |sum: usize, length| {
-        sum.saturating_add(*length)
-    })
-}
-
-/// Every refusal that applies, in the order of the tests.
-pub fn refusals(request: &Request) -> Vec<u8> {
-    let applying = TESTS.iter().filter(|(_, test)| test(request));
-    applying.map(|(number, _)| *number).collect()
+    let check_bytes = 1 + usize::from(kind_of_run(request.header) == Some(3));
+    let given = [request.header, request.data, request.response];
+    given
+        .iter()
+        .fold(check_bytes, |sum: usize, run| sum.saturating_add(run.len()))
 }
 
 /// Header, data and their check byte.
@@ -91,16 +38,34 @@ pub fn response_run(kind: Option<u8>, response: &[u8]) -> Vec<u8> {
     }
 }
 
-/// The first run and the response, or the first refusal that applies.
+/// The first run and the response, or the refusal of the first test that fails,
+/// in the order 7, 4, 5, 1, 8.
 pub fn write(request: &Request) -> Result<(Vec<u8>, Vec<u8>), u8> {
-    for (number, test) in TESTS {
-        if test(request) {
-            return Err(number);
-        }
+    let first_byte = *request.header.first().ok_or(HEADER)?;
+    if request.header.len() != header_length(first_byte) {
+        return Err(HEADER);
     }
-    let kind = kind_of_run(request.header);
+    let kind = response_kind(first_byte).ok_or(UNASSIGNED)?;
+    if is_count_wrong(kind, request.response) {
+        return Err(RESPONSE_COUNT);
+    }
+    if result_length(request) > MOST_BYTES {
+        return Err(TOO_LONG);
+    }
+    if request.out_length < result_length(request) {
+        return Err(OUTPUT_SHORT);
+    }
     let first = first_run(request.header, request.data);
-    Ok((first, response_run(kind, request.response)))
+    Ok((first, response_run(Some(kind), request.response)))
+}
+
+/// The check byte of a kind 3 response is not among those given.
+fn is_count_wrong(kind: u8, response: &[u8]) -> bool {
+    match kind {
+        0 => !response.is_empty(),
+        1 => response.len() != 1,
+        _ => response.is_empty(),
+    }
 }
 
 /// The number `rakhubole_j1850_write` returns, and the bytes it puts at the
