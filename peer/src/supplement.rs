@@ -1,13 +1,12 @@
 //! The supplement: records of SLOTs, PRNs and layouts beside the SAE tables.
 
 pub mod draft;
-pub mod kind;
 pub mod layout;
+pub mod record;
 pub mod records;
-pub mod walk;
 
-use kind::{Kind, KINDS};
-use walk::Walk;
+use record::{key_of, Record};
+use std::collections::HashSet;
 
 /// A supplement has at most this many bytes.
 pub const MOST_BYTES: usize = 16_384;
@@ -22,36 +21,39 @@ pub mod refusal {
     pub const IN_SAE: u8 = 15;
 }
 
-/// What a supplement is tested by.
-#[derive(Clone, Copy)]
-pub struct Rules {
-    pub most_bytes: usize,
-    pub kinds: [Kind; 3],
+/// The number and the place of the refusal, if there is one: of the first record
+/// with a fault, the lowest number that applies to it.
+fn refusal(supplement: &[u8]) -> Option<(u8, usize)> {
+    if supplement.len() > MOST_BYTES {
+        return Some((refusal::TOO_LONG, 0));
+    }
+    let mut keys = HashSet::new();
+    let mut place = 0;
+    while place < supplement.len() {
+        match record_at(&supplement[place..], &mut keys) {
+            Ok(length) => place += length,
+            Err(number) => return Some((number, place)),
+        }
+    }
+    None
 }
 
-pub const RULES: Rules = Rules {
-    most_bytes: MOST_BYTES,
-    kinds: KINDS,
-};
-
-impl Rules {
-    /// The number and the place of the refusal, if there is one: of the first
-    /// record with a fault, the lowest number that applies to it.
-    pub fn refusal(&self, supplement: &[u8]) -> Option<(u8, usize)> {
-        if supplement.len() > self.most_bytes {
-            return Some((refusal::TOO_LONG, 0));
-        }
-        let mut records = Walk::new(&self.kinds, supplement);
-        let faulty = records.find(|record| !record.refusals.is_empty())?;
-        Some((*faulty.refusals.iter().min()?, faulty.place))
+/// The length of the record at the start, or its refusal. `keys` are kind byte
+/// and key of the records before it.
+fn record_at<'a>(rest: &'a [u8], keys: &mut HashSet<&'a [u8]>) -> Result<usize, u8> {
+    let length = record::length(rest[0]).ok_or(refusal::UNKNOWN_KIND)?;
+    let bytes = rest.get(..length).ok_or(refusal::CUT)?;
+    let record = Record::of(bytes);
+    if !record.is_in_range() {
+        return Err(refusal::RANGE);
     }
-
-    pub fn answer(&self, supplement: &[u8]) -> u64 {
-        match self.refusal(supplement) {
-            Some((number, place)) => refused_answer(number, place),
-            None => 0,
-        }
+    if !keys.insert(key_of(bytes)) {
+        return Err(refusal::SEEN_BEFORE);
     }
+    if record.is_in_sae() {
+        return Err(refusal::IN_SAE);
+    }
+    Ok(length)
 }
 
 /// Low byte the refusal, bits 8 to 31 the place.
@@ -61,7 +63,7 @@ pub fn refused_answer(number: u8, place: usize) -> u64 {
 
 /// The number `rakhubole_supplement_check` returns.
 pub fn answer(supplement: &[u8]) -> u64 {
-    RULES.answer(supplement)
+    refusal(supplement).map_or(0, |(number, place)| refused_answer(number, place))
 }
 
 #[cfg(test)]

@@ -3,6 +3,9 @@
 use super::{Archive, Outcome, Run};
 use crate::case::Call;
 use crate::frame::check_byte::checked;
+use crate::sae::form::UNM;
+use crate::sae::Prn;
+use crate::supplement::draft::prn_record;
 use std::alloc::{alloc_zeroed, Layout};
 
 /// A length cut to 32 bits loses this much.
@@ -25,7 +28,7 @@ impl Outcome {
 
     /// Cut to 32 bits, each long run would be sound.
     fn lend_long(&mut self, archive: Archive, call: Call, block: &mut [u8]) {
-        let record = [2, 0x12, 0x34, 1, 8, 0, 101];
+        let record = prn_record(&Prn::new(0x1234, UNM, 8, 101));
         let (frame, response): (&[u8], &[u8]) = (&checked(&[0x12]), &[9]);
         let out = &mut [0; SHORT_OUTPUT];
         let start = if call == Call::Check { &record } else { frame };

@@ -6,7 +6,7 @@ use crate::random::Random;
 use crate::report::neighbours::with_others;
 use crate::report::scene_random::scene;
 use crate::supplement::draft::{shuffle, Bytes};
-use crate::supplement::kind::{LAYOUT, PRN, SLOT};
+use crate::supplement::record::{LAYOUT, PRN, SLOT};
 use crate::text::hex;
 use std::fmt;
 

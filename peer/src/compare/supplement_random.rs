@@ -6,7 +6,7 @@ use crate::supplement::draft::{
     distinct, kinds_of_length, layout_record, prn_record, random_kind, random_layout, random_prn,
     random_record, random_slot, slot_record, Bytes, Layouts,
 };
-use crate::supplement::kind::{LAYOUT, PRN, SLOT};
+use crate::supplement::record::{length, LAYOUT, PLACES, PRN, SLOT};
 use crate::supplement::MOST_BYTES;
 
 pub fn supplement(random: &mut Random) -> Vec<u8> {
@@ -141,7 +141,7 @@ fn spoiled_layout(random: &mut Random) -> Bytes {
         2 => layout.present = random.pick(&[0, 1, 2, 255]),
         3 => layout.selector = random.pick(&[0, 1, byte]),
         4 => layout.count = random.pick(&[0, 15, 16, 17, 255, byte % 20]),
-        _ => layout.prns[random.below(16)] = random.pick(&[0x0001, 0x0100]),
+        _ => layout.prns[random.below(PLACES)] = random.pick(&[0x0001, 0x0100]),
     }
     layout_record(&layout)
 }
@@ -149,10 +149,11 @@ fn spoiled_layout(random: &mut Random) -> Bytes {
 /// One byte of a record changed, or its field outside the key made zero.
 fn break_field(record: &mut Bytes, random: &mut Random) {
     let place = random.below(record.len());
-    match (record[0], random.once_in(2)) {
-        (SLOT, true) if record.len() == 21 => record[7..9].fill(0),
-        (PRN, true) if record.len() == 7 => record[3] = 0,
-        (LAYOUT, true) if record.len() == 38 => record[5] = 17,
+    let is_whole = length(record[0]) == Some(record.len());
+    match (record[0], random.once_in(2) && is_whole) {
+        (SLOT, true) => record[7..9].fill(0),
+        (PRN, true) => record[3] = 0,
+        (LAYOUT, true) => record[5] = 17,
         _ => record[place] ^= 1 << random.below(8),
     }
 }

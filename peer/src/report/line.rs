@@ -1,6 +1,6 @@
 //! The lines of a report and their rows.
 
-use crate::supplement::kind::PLACES;
+use crate::supplement::record::PLACES;
 
 /// The kinds of row.
 pub mod row_kind {

@@ -5,9 +5,10 @@ use crate::random::Random;
 use crate::sae::Slot;
 use crate::supplement;
 use crate::supplement::draft::{
-    add_distinct, key_of, layout_record, random_kind, shuffle, slot_record, Bytes,
+    add_distinct, layout_record, random_kind, shuffle, slot_record, Bytes,
 };
 use crate::supplement::layout::Layout;
+use crate::supplement::record::key_of;
 
 /// Acceptable layouts that differ from this one in one field of the key.
 pub fn near_layouts(sought: &Layout) -> Vec<Layout> {

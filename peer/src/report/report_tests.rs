@@ -8,6 +8,7 @@ use crate::random::Random;
 use crate::sae::form::*;
 use crate::supplement::draft::{layout_record, prn_record, slot_record};
 use crate::supplement::layout::Layout;
+use crate::supplement::record::{length_of, LAYOUT};
 use crate::supplement::refused_answer;
 
 /// The supplement of the whole report among the bench cases.
@@ -51,7 +52,10 @@ fn order_of_refusals() {
     let mut case = sound.clone().lent(0);
     case.inputs[1][3] ^= 1;
     case.inputs[0].push(9);
-    assert_eq!(case.answer(), (refused_answer(11, 38), Vec::new()));
+    assert_eq!(
+        case.answer(),
+        (refused_answer(11, length_of(LAYOUT)), Vec::new())
+    );
     case.inputs[0].pop();
     assert_eq!(case.answer(), (3, Vec::new()));
     case.inputs[1] = sound.inputs[1].clone();
@@ -200,7 +204,10 @@ fn tables_beside_each_other() {
     let override_sae = slot_record(&sae::SLOTS[40]);
     let supplement = [layout_record(&layout), override_sae].concat();
     let case = Case::report(supplement, (first.clone(), Vec::new()));
-    assert_eq!(case.answer(), (refused_answer(15, 38), Vec::new()));
+    assert_eq!(
+        case.answer(),
+        (refused_answer(15, length_of(LAYOUT)), Vec::new())
+    );
 }
 
 #[test]

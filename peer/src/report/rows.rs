@@ -1,7 +1,7 @@
 //! Rows taken apart again, by their kinds and lengths alone.
 
 use super::line::{row_kind, row_length, verdict};
-use crate::supplement::kind::PLACES;
+use crate::supplement::record::PLACES;
 
 /// A report's rows by name; each is its kind and body.
 #[derive(Clone, Debug, PartialEq)]

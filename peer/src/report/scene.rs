@@ -10,8 +10,8 @@ use crate::random::Random;
 use crate::sae::form::SNM;
 use crate::sae::{all_ones, has_prn, has_slot, prn_row, Prn, Slot};
 use crate::supplement::draft::{layout_record, prn_record, slot_record, Bytes};
-use crate::supplement::kind::PLACES;
 use crate::supplement::layout::Layout;
+use crate::supplement::record::PLACES;
 
 /// One item: its PRN, the PRN's row and a SLOT if they are known, and the
 /// bits it has in the data.

@@ -9,7 +9,7 @@ use crate::random::Random;
 use crate::sae::form::*;
 use crate::sae::{all_ones, has_prn, prn_row, slot_row, Prn, Slot, PRNS, SLOTS};
 use crate::supplement::draft::{random_prn, random_slot};
-use crate::supplement::kind::PLACES;
+use crate::supplement::record::PLACES;
 
 pub fn scene(random: &mut Random) -> Scene {
     let mut scene = Scene::of(frame(random));

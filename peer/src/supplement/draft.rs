@@ -1,7 +1,7 @@
 //! Drafts of records and supplements, from which cases are made.
 
-use super::kind::{self, KINDS, LAYOUT, PLACES, PRN, SLOT};
 use super::layout::Layout;
+use super::record::{key_of, length_of, KINDS, LAYOUT, PLACES, PRN, SLOT};
 use crate::random::Random;
 use crate::sae::form::SNM;
 use crate::sae::{has_prn, has_slot, Prn, Slot};
@@ -115,7 +115,7 @@ pub fn random_record(kind: u8, random: &mut Random) -> Bytes {
 }
 
 pub fn random_kind(random: &mut Random) -> u8 {
-    random.pick(&[SLOT, PRN, LAYOUT])
+    random.pick(&KINDS)
 }
 
 /// Acceptable records of these kinds, no key twice.
@@ -138,25 +138,22 @@ pub fn add_distinct(list: &mut Vec<Bytes>, kinds: &[u8], random: &mut Random) {
     }
 }
 
-/// Kind byte and key of a whole record.
-pub fn key_of(record: &[u8]) -> &[u8] {
-    let kind = kind::of_byte(&KINDS, record[0]).expect("a known kind");
-    &record[..1 + kind.key]
-}
-
-/// Kinds whose records have `length` bytes together, in random order; at
-/// least 228 bytes. A layout has 38, the others 7 and three times 7.
+/// Kinds whose records have `length` bytes together, in random order; as many
+/// bytes at least as six layouts. A SLOT record is as long as three of a PRN, so
+/// layouts give the rest of a division by the length of a PRN record.
 pub fn kinds_of_length(length: usize, layouts: Layouts, random: &mut Random) -> Vec<u8> {
-    let mut count = (0..7).find(|count| 38 * count % 7 == length % 7).unwrap();
+    let [slot, prn, layout] = KINDS.map(length_of);
+    let is_rest = |count: &usize| layout * count % prn == length % prn;
+    let mut count = (0..prn).find(is_rest).expect("a rest");
     if layouts == Layouts::Many {
-        count += 7 * ((length - 38 * count) / (38 * 7));
+        count += prn * ((length - layout * count) / (layout * prn));
     }
-    let mut sevens = (length - 38 * count) / 7;
+    let mut left = length - layout * count;
     let mut kinds = vec![LAYOUT; count];
-    while sevens > 0 {
-        let is_slot = sevens >= 3 && random.once_in(2);
+    while left > 0 {
+        let is_slot = left >= slot && random.once_in(2);
         kinds.push(if is_slot { SLOT } else { PRN });
-        sevens -= if is_slot { 3 } else { 1 };
+        left -= if is_slot { slot } else { prn };
     }
     shuffle(&mut kinds, random);
     kinds

@@ -1,6 +1,6 @@
 //! A layout's fields.
 
-use super::kind::PLACES;
+use super::record::PLACES;
 
 #[derive(Clone, Copy, Debug, PartialEq)]
 pub struct Layout {

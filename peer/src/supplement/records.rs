@@ -1,8 +1,7 @@
 //! The records of an accepted supplement by their fields.
 
-use super::kind::{number_16, number_32, KINDS, LAYOUT, PLACES, PRN, SLOT};
 use super::layout::Layout;
-use super::walk::Walk;
+use super::record::{length_of, Record};
 use crate::sae::{Prn, Slot};
 
 #[derive(Clone, Debug, Default, PartialEq)]
@@ -15,14 +14,15 @@ pub struct Records {
 impl Records {
     pub fn of(supplement: &[u8]) -> Records {
         let mut records = Records::default();
-        for record in Walk::new(&KINDS, supplement) {
-            let body = record.body().expect("an accepted record is whole");
-            match record.bytes[0] {
-                SLOT => records.slots.push(slot_of(body)),
-                PRN => records.prns.push(prn_of(body)),
-                LAYOUT => records.layouts.push(layout_of(body)),
-                byte => panic!("an accepted record has no kind byte {byte}"),
+        let mut rest = supplement;
+        while let Some(kind) = rest.first() {
+            let (bytes, after) = rest.split_at(length_of(*kind));
+            match Record::of(bytes) {
+                Record::Slot(slot) => records.slots.push(slot),
+                Record::Prn(prn) => records.prns.push(prn),
+                Record::Layout(layout) => records.layouts.push(layout),
             }
+            rest = after;
         }
         records
     }
@@ -40,32 +40,6 @@ impl Records {
         let found = self.layouts.iter().find(|layout| layout.key() == key);
         found.copied()
     }
-}
-
-fn slot_of(body: &[u8]) -> Slot {
-    Slot {
-        form: body[0],
-        width: body[1],
-        number: number_16(body, 2),
-        multiplier: number_16(body, 4),
-        divisor: number_16(body, 6),
-        offset: number_32(body, 8) as i32,
-        lowest: number_32(body, 12),
-        highest: number_32(body, 16),
-    }
-}
-
-fn prn_of(body: &[u8]) -> Prn {
-    Prn::new(number_16(body, 0), body[2], body[3], number_16(body, 4))
-}
-
-fn layout_of(body: &[u8]) -> Layout {
-    let mut layout = Layout::of_key([body[0], body[1], body[2], body[3]]);
-    layout.count = body[4];
-    for place in 0..PLACES {
-        layout.prns[place] = number_16(body, 5 + 2 * place);
-    }
-    layout
 }
 
 #[cfg(test)]

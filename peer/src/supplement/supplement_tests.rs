@@ -1,8 +1,7 @@
-use super::draft::{distinct, layout_record, prn_record, slot_record};
-use super::kind::{LAYOUT, PRN, SLOT};
+use super::draft::{layout_record, prn_record, slot_record};
 use super::layout::Layout;
+use super::record::{length_of, KINDS, SLOT};
 use super::*;
-use crate::random::Random;
 use crate::sae::form::*;
 use crate::sae::{Prn, Slot, PRNS, SLOTS};
 
@@ -36,7 +35,6 @@ fn three_records() -> Vec<u8> {
 #[test]
 fn accepted() {
     assert_eq!(answer(&[]), 0);
-    assert_eq!(three_records().len(), 21 + 7 + 38);
     assert_eq!(answer(&three_records()), 0);
     let bench = layout_record(&bench_layout());
     assert_eq!(
@@ -59,22 +57,22 @@ fn unknown_kinds() {
         let first = [&[byte], &three_records()[..]].concat();
         assert_eq!(answer(&first), 11);
         let last = [&three_records()[..], &[byte]].concat();
-        assert_eq!(answer(&last), refused_answer(11, 66));
+        assert_eq!(answer(&last), refused_answer(11, three_records().len()));
     }
 }
 
 #[test]
 fn cuts() {
     let whole = three_records();
-    for length in 0..whole.len() {
-        let expected = match length {
-            0 | 21 | 28 => 0,
-            1..=20 => 12,
-            22..=27 => refused_answer(12, 21),
-            _ => refused_answer(12, 28),
-        };
-        assert_eq!(answer(&whole[..length]), expected, "{length}");
+    let mut place = 0;
+    for length in KINDS.map(length_of) {
+        assert_eq!(answer(&whole[..place]), 0);
+        for end in place + 1..place + length {
+            assert_eq!(answer(&whole[..end]), refused_answer(12, place), "{end}");
+        }
+        place += length;
     }
+    assert_eq!(answer(&whole[..place]), 0);
 }
 
 fn slot_answer(change: fn(&mut Slot)) -> u64 {
@@ -173,14 +171,14 @@ fn ranges_of_a_layouts_prns() {
 fn keys_seen_before() {
     let mut slot = OWN_SLOT;
     slot.multiplier = 7;
-    let again = [three_records(), slot_record(&slot)].concat();
-    assert_eq!(answer(&again), refused_answer(14, 66));
-    let prn = Prn::new(OWN_PRN.prn, BCD, 4, 1);
-    let again = [three_records(), prn_record(&prn)].concat();
-    assert_eq!(answer(&again), refused_answer(14, 66));
-    let layout = bench_layout().with_prns(&[]);
-    let again = [three_records(), layout_record(&layout)].concat();
-    assert_eq!(answer(&again), refused_answer(14, 66));
+    for record in [
+        slot_record(&slot),
+        prn_record(&Prn::new(OWN_PRN.prn, BCD, 4, 1)),
+        layout_record(&bench_layout().with_prns(&[])),
+    ] {
+        let again = [three_records(), record].concat();
+        assert_eq!(answer(&again), refused_answer(14, three_records().len()));
+    }
 }
 
 #[test]
@@ -230,27 +228,12 @@ fn lowest_number_of_the_first_faulty_record() {
     let mut bad = OWN_SLOT;
     bad.divisor = 0;
     let bad_again = [slot_record(&OWN_SLOT), slot_record(&bad)].concat();
-    assert_eq!(answer(&bad_again), refused_answer(13, 21));
+    assert_eq!(answer(&bad_again), refused_answer(13, length_of(SLOT)));
     let bad_sae = prn_record(&Prn::new(0x1025, 0, 8, 101));
     assert_eq!(answer(&bad_sae), 13);
     let sae = prn_record(&Prn::new(0x1025, UNM, 8, 101));
     let sae_first = [&sae[..], &slot_record(&bad), &[0]].concat();
     assert_eq!(answer(&sae_first), 15);
     let cut_sae = [&slot_record(&OWN_SLOT)[..], &sae[..6]].concat();
-    assert_eq!(answer(&cut_sae), refused_answer(12, 21));
-}
-
-#[test]
-fn the_walk_goes_on_after_a_fault() {
-    let mut random = Random::new(23);
-    let records = distinct(&[SLOT, PRN, LAYOUT], &mut random);
-    let twice = [records.concat(), records.concat(), vec![9, 1, 2]].concat();
-    let walk: Vec<walk::Record> = walk::Walk::new(&KINDS, &twice).collect();
-    let places: Vec<usize> = walk.iter().map(|record| record.place).collect();
-    assert_eq!(places, [0, 21, 28, 66, 87, 94, 132]);
-    let refusals: Vec<Vec<u8>> = walk.into_iter().map(|record| record.refusals).collect();
-    let none = Vec::new();
-    let seen = vec![14];
-    let expected = [&none, &none, &none, &seen, &seen, &seen, &vec![11]];
-    assert!(refusals.iter().eq(expected));
+    assert_eq!(answer(&cut_sae), refused_answer(12, length_of(SLOT)));
 }

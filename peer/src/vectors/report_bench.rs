@@ -8,6 +8,7 @@ use crate::sae::form::{SNM, UNM};
 use crate::sae::{prn_row, slot_row, Prn};
 use crate::supplement::draft::{layout_record, prn_record, slot_record, Bytes};
 use crate::supplement::layout::Layout;
+use crate::supplement::record::{length_of, LAYOUT};
 use crate::supplement::refused_answer;
 
 /// A case by name, with its number and its rows.
@@ -205,7 +206,7 @@ fn rows_over_sae() -> Vec<Bench> {
     let mut slot = slot_row((UNM, 8, 101)).expect("an SAE row");
     slot.offset = 1;
     let case = |record: Bytes| case([layout(&[0x1025]), record].concat(), &[0x65]);
-    let number = refused_answer(15, 38);
+    let number = refused_answer(15, length_of(LAYOUT));
     vec![
         refused("an SAE PRN again", case(prn_record(&prn)), number),
         refused("an SAE SLOT again", case(slot_record(&slot)), number),

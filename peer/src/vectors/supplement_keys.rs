@@ -3,13 +3,13 @@
 use crate::random::Random;
 use crate::sae::form::{BMM, PKT, SFP};
 use crate::sae::{has_prn, has_slot, Prn, Slot, PRNS, SLOTS};
+use crate::supplement::answer;
 use crate::supplement::draft::{
     distinct, layout_record, prn_record, random_kind, random_prn, random_record, random_slot,
     slot_record, Bytes,
 };
-use crate::supplement::kind::{self, KINDS, LAYOUT, PRN, SLOT};
 use crate::supplement::layout::Layout;
-use crate::supplement::walk::broken_ranges;
+use crate::supplement::record::{key_of, length_of, KINDS};
 
 pub fn cases(random: &mut Random) -> Vec<Bytes> {
     let groups = [
@@ -28,12 +28,12 @@ pub fn cases(random: &mut Random) -> Vec<Bytes> {
 fn one_byte_apart(random: &mut Random) -> Vec<Bytes> {
     let mut list = Vec::new();
     for kind in KINDS {
-        for place in 1..=kind.body {
-            let pair = pair_apart_at(kind.number, place, random);
+        for place in 1..length_of(kind) {
+            let pair = pair_apart_at(kind, place, random);
             list.push(pair.concat());
             list.push([&pair[1][..], &pair[0]].concat());
         }
-        let record = random_record(kind.number, random);
+        let record = random_record(kind, random);
         list.push([&record[..], &record].concat());
     }
     list
@@ -45,22 +45,16 @@ fn pair_apart_at(kind: u8, place: usize, random: &mut Random) -> [Bytes; 2] {
         let record = random_record(kind, random);
         let mut other = record.clone();
         other[place] ^= 1 << random.below(8);
-        if is_acceptable(&other) {
+        if answer(&other) == 0 {
             return [record, other];
         }
     }
 }
 
-fn is_acceptable(record: &[u8]) -> bool {
-    let kind = kind::of_byte(&KINDS, record[0]).expect("a known kind");
-    let body = &record[1..];
-    broken_ranges(kind, body).is_empty() && !(kind.in_sae)(body)
-}
-
 /// The first record's key again after several others.
 fn far_apart(random: &mut Random) -> Vec<Bytes> {
     let mut list = Vec::new();
-    for first in [SLOT, PRN, LAYOUT] {
+    for first in KINDS {
         for between in [1, 2, 3, 5, 8, 13] {
             let mut kinds = vec![first];
             kinds.extend((0..between).map(|_| random_kind(random)));
@@ -74,11 +68,11 @@ fn far_apart(random: &mut Random) -> Vec<Bytes> {
 
 /// An acceptable record with that record's key.
 pub fn with_key_of(record: &[u8], random: &mut Random) -> Bytes {
-    let kind = kind::of_byte(&KINDS, record[0]).expect("a known kind");
+    let key = key_of(record);
     loop {
         let mut other = random_record(record[0], random);
-        other[..1 + kind.key].copy_from_slice(&record[..1 + kind.key]);
-        if is_acceptable(&other) {
+        other[..key.len()].copy_from_slice(key);
+        if answer(&other) == 0 {
             return other;
         }
     }

@@ -6,7 +6,7 @@ use crate::sae::{PRNS, SLOTS};
 use crate::supplement::draft::{
     distinct, kinds_of_length, prn_record, random_kind, random_record, slot_record, Bytes, Layouts,
 };
-use crate::supplement::kind::{self, KINDS, LAYOUT, PRN, SLOT};
+use crate::supplement::record::{length, length_of, KINDS, LAYOUT, PRN, SLOT};
 use crate::supplement::{refusal, MOST_BYTES};
 
 pub fn cases(random: &mut Random) -> Vec<Bytes> {
@@ -64,7 +64,7 @@ pub fn with_sae_key(kind: u8, random: &mut Random) -> Option<Bytes> {
 /// Each unknown kind byte by itself, and before or after other records.
 fn unknown_kinds(random: &mut Random) -> Vec<Bytes> {
     let mut list = Vec::new();
-    for byte in (0..=255).filter(|byte| kind::of_byte(&KINDS, *byte).is_none()) {
+    for byte in (0..=255).filter(|byte| length(*byte).is_none()) {
         let record = random_record(PRN, random);
         let beside = match byte % 3 {
             0 => [&[byte], &record[..]].concat(),
@@ -81,9 +81,9 @@ fn unknown_kinds(random: &mut Random) -> Vec<Bytes> {
 fn cuts(random: &mut Random) -> Vec<Bytes> {
     let mut list = Vec::new();
     for kind in KINDS {
-        for length in 1..=kind.body {
+        for length in 1..length_of(kind) {
             for before in [&[][..], &[SLOT], &[PRN], &[LAYOUT, PRN]] {
-                let kinds = [before, &[kind.number]].concat();
+                let kinds = [before, &[kind]].concat();
                 let mut records = distinct(&kinds, random);
                 records[before.len()].truncate(length);
                 list.push(records.concat());
@@ -96,7 +96,7 @@ fn cuts(random: &mut Random) -> Vec<Bytes> {
 /// Each refusal of each kind alone, first, in the middle and last.
 fn faults_among_others(random: &mut Random) -> Vec<Bytes> {
     let mut list = Vec::new();
-    for kind in [SLOT, PRN, LAYOUT] {
+    for kind in KINDS {
         for number in refusal::UNKNOWN_KIND..=refusal::IN_SAE {
             for (before, after) in [(0, 0), (0, 4), (1, 1), (4, 4), (4, 0)] {
                 let earlier = others(before, random);
@@ -122,7 +122,7 @@ fn others(count: usize, random: &mut Random) -> Vec<Bytes> {
 /// such things can be seen.
 fn two_faults_in_one(random: &mut Random) -> Vec<Bytes> {
     let mut list = Vec::new();
-    for kind in [SLOT, PRN, LAYOUT] {
+    for kind in KINDS {
         let earlier = distinct(&[kind], random);
         for number in OF_WHOLE {
             let Some(record) = faulty(number, kind, &earlier, random) else {
@@ -144,11 +144,11 @@ fn two_faults_in_one(random: &mut Random) -> Vec<Bytes> {
 /// Each refusal that leaves a next record, before each refusal.
 fn two_faulty_records(random: &mut Random) -> Vec<Bytes> {
     let mut list = Vec::new();
-    for first_kind in [SLOT, PRN, LAYOUT] {
-        for later_kind in [SLOT, PRN, LAYOUT] {
+    for first_kind in KINDS {
+        for later_kind in KINDS {
             for first in OF_WHOLE {
                 for later in refusal::UNKNOWN_KIND..=refusal::IN_SAE {
-                    let earlier = distinct(&[SLOT, PRN, LAYOUT], random);
+                    let earlier = distinct(&KINDS, random);
                     let first = faulty(first, first_kind, &earlier, random);
                     let later = faulty(later, later_kind, &earlier, random);
                     if let (Some(first), Some(later)) = (first, later) {
@@ -207,7 +207,7 @@ fn records_of_length(length: usize, layouts: Layouts, random: &mut Random) -> Ve
 
 /// As long as can be, the last record refused so.
 fn full_with_last(number: u8, random: &mut Random) -> Bytes {
-    let earlier = records_of_length(MOST_BYTES - 7, Layouts::Few, random);
+    let earlier = records_of_length(MOST_BYTES - length_of(PRN), Layouts::Few, random);
     let last = faulty(number, PRN, &earlier, random).expect("a PRN record");
     [earlier.concat(), last].concat()
 }
