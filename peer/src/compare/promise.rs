@@ -10,7 +10,7 @@ use crate::report::line::LONGEST;
 use crate::report::promise::broken_sentences;
 use crate::report::rows::{is_short, is_unknown, left, parse, unknown_number, Rows};
 use crate::report::scene::parts_of;
-use crate::report::{layout_key, RULES};
+use crate::report::{find_prn, layout_key};
 use crate::supplement::records::Records;
 use crate::text::hex;
 
@@ -109,7 +109,7 @@ fn try_widths(
     }
     counts.count("widths and Left");
     let widths = layout.used().iter().map(|prn| {
-        let row = (RULES.prn)(&records, *prn);
+        let row = find_prn(&records, *prn);
         row.map_or(0, |row| usize::from(row.width))
     });
     let bits = 8 * parts.data.len().saturating_sub(1);

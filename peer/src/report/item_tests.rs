@@ -12,10 +12,6 @@ fn item(form: u8, width: u8, raw: u32) -> Item {
     }
 }
 
-fn line(item: &Item) -> Line {
-    RULES.iter().find_map(|rule| (rule.line)(item)).unwrap()
-}
-
 fn with_limits(mut item: Item, lowest: u32, highest: u32) -> Item {
     let slot = item.slot.as_mut().unwrap();
     (slot.lowest, slot.highest) = (lowest, highest);

@@ -74,7 +74,7 @@ fn only_line(sample: Sample) -> Line {
     assert_eq!(scene.case().answer().0 & 0xFF, 0);
     let supplement = scene.case().inputs.remove(0);
     let parts = super::scene::parts_of(&scene.frame);
-    RULES.report(&Records::of(&supplement), &parts).lines[0]
+    lines(&Records::of(&supplement), &parts)[0]
 }
 
 #[test]
