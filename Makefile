@@ -58,8 +58,8 @@ tables-check: ## test the transcription and compare the committed tables with do
 peer: archive ## build the independent second program
 	cd peer && $(CARGO) build --offline --release --bins
 
-peer-tests: ## run the second program's own tests
-	cd peer && $(CARGO) test --offline --release --lib
+peer-tests: ## run the second program's own tests, of its tables too where document 003 is at hand
+	cd peer && RAKHUBOLE_SOURCE=$(abspath $(wildcard $(SOURCE))) $(CARGO) test --offline --release --lib
 
 vectors: peer ## compare the committed vector files with those that the second program writes
 	rm -rf build/vectors

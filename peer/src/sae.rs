@@ -3,7 +3,8 @@
 pub mod form;
 mod prns;
 mod slots;
-pub mod source;
+#[cfg(test)]
+mod source;
 
 pub use prns::PRNS;
 pub use slots::SLOTS;

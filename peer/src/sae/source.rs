@@ -5,7 +5,7 @@ mod linear;
 mod numeric;
 mod table;
 
-use super::{form, Prn, Slot, PRNS, SLOTS};
+use super::{Prn, Slot, PRNS, SLOTS};
 use std::collections::HashSet;
 use table::{cells, slot_reference};
 
@@ -92,22 +92,6 @@ impl Reading {
         list.extend(only_in("text", &self.slots, SLOTS));
         list.extend(only_in("tables", SLOTS, &self.slots));
         list
-    }
-
-    pub fn summary(&self) -> String {
-        let by_form = form::LETTERS.iter().enumerate().map(|(place, letters)| {
-            let of_form = |slot: &&Slot| usize::from(slot.form) == place + 1;
-            format!("{letters} {}", self.slots.iter().filter(of_form).count())
-        });
-        format!(
-            "{} PRN rows; {} SLOTs ({}); {} reserved lines, {} twice, {} left out",
-            self.prns.len(),
-            self.slots.len(),
-            by_form.collect::<Vec<String>>().join(", "),
-            self.reserved.len(),
-            self.twice.len(),
-            self.left_out.len()
-        )
     }
 }
 

@@ -80,87 +80,85 @@ pub struct Linear {
 }
 
 impl Linear {
-    /// Reads an expression of N, decimal numbers, + - * / and parentheses.
+    /// An expression of N, decimal numbers, + - * / and parentheses: known by its
+    /// values for 0 and 1 if it is linear, which the one for 2 shows.
     pub fn of_text(text: &str) -> Option<Linear> {
-        let letters: Vec<char> = text
-            .chars()
-            .filter(|letter| !matches!(letter, ' ' | '$'))
-            .collect();
-        let mut place = 0;
-        let value = sum(&letters, &mut place)?;
-        (place == letters.len()).then_some(value)
+        let base = value(text, 0)?;
+        let slope = value(text, 1)? - base;
+        let linear = Linear { slope, base };
+        (value(text, 2)? == linear.at(2)).then_some(linear)
     }
 
     pub fn at(self, raw: i128) -> Ratio {
         self.slope * Ratio::whole(raw) + self.base
     }
+}
 
-    fn constant(base: Ratio) -> Linear {
-        let slope = Ratio::whole(0);
-        Linear { slope, base }
+/// What the expression gives for one N.
+fn value(text: &str, raw: i128) -> Option<Ratio> {
+    let letters: Vec<char> = text
+        .chars()
+        .filter(|letter| !matches!(letter, ' ' | '$'))
+        .collect();
+    let mut rest = &letters[..];
+    let value = sum(&mut rest, raw)?;
+    rest.is_empty().then_some(value)
+}
+
+/// Takes one of these signs from the start.
+fn sign(rest: &mut &[char], signs: [char; 2]) -> Option<char> {
+    let (first, after) = rest.split_first()?;
+    let is_sign = signs.contains(first);
+    if is_sign {
+        *rest = after;
     }
+    is_sign.then_some(*first)
+}
 
-    /// The same operation on slope and base.
-    fn both(self, operation: impl Fn(Ratio) -> Ratio) -> Linear {
-        Linear {
-            slope: operation(self.slope),
-            base: operation(self.base),
+fn sum(rest: &mut &[char], raw: i128) -> Option<Ratio> {
+    let mut value = product(rest, raw)?;
+    while let Some(sign) = sign(rest, ['+', '-']) {
+        let other = product(rest, raw)?;
+        value = match sign {
+            '+' => value + other,
+            _ => value - other,
+        };
+    }
+    Some(value)
+}
+
+fn product(rest: &mut &[char], raw: i128) -> Option<Ratio> {
+    let mut value = factor(rest, raw)?;
+    while let Some(sign) = sign(rest, ['*', '/']) {
+        let other = factor(rest, raw)?;
+        value = match sign {
+            '*' => value * other,
+            _ if other.above == 0 => return None,
+            _ => value / other,
+        };
+    }
+    Some(value)
+}
+
+fn factor(rest: &mut &[char], raw: i128) -> Option<Ratio> {
+    let (first, after) = rest.split_first()?;
+    match first {
+        'N' => {
+            *rest = after;
+            Some(Ratio::whole(raw))
+        }
+        '(' => {
+            *rest = after;
+            let inner = sum(rest, raw)?;
+            sign(rest, [')'; 2]).map(|_| inner)
+        }
+        _ => {
+            let is_of_number = |letter: &&char| letter.is_ascii_digit() || **letter == '.';
+            let number: String = rest.iter().take_while(is_of_number).collect();
+            *rest = &rest[number.len()..];
+            Ratio::of_decimal(&number)
         }
     }
-
-    fn if_constant(self) -> Option<Ratio> {
-        (self.slope.above == 0).then_some(self.base)
-    }
-}
-
-fn sum(letters: &[char], place: &mut usize) -> Option<Linear> {
-    let mut value = product(letters, place)?;
-    while let Some(sign @ ('+' | '-')) = letters.get(*place) {
-        *place += 1;
-        let other = product(letters, place)?;
-        let other = if *sign == '+' {
-            other
-        } else {
-            other.both(|part| part * Ratio::whole(-1))
-        };
-        value.slope = value.slope + other.slope;
-        value.base = value.base + other.base;
-    }
-    Some(value)
-}
-
-fn product(letters: &[char], place: &mut usize) -> Option<Linear> {
-    let mut value = factor(letters, place)?;
-    while let Some(sign @ ('*' | '/')) = letters.get(*place) {
-        *place += 1;
-        let other = factor(letters, place)?.if_constant()?;
-        value = if *sign == '*' {
-            value.both(|part| part * other)
-        } else {
-            value.both(|part| part / other)
-        };
-    }
-    Some(value)
-}
-
-fn factor(letters: &[char], place: &mut usize) -> Option<Linear> {
-    let first = *letters.get(*place)?;
-    if first == 'N' {
-        *place += 1;
-        let (slope, base) = (Ratio::whole(1), Ratio::whole(0));
-        return Some(Linear { slope, base });
-    }
-    if first == '(' {
-        *place += 1;
-        let inner = sum(letters, place)?;
-        let closed = letters.get(*place) == Some(&')');
-        *place += 1;
-        return closed.then_some(inner);
-    }
-    let is_of_number = |letter: &&char| letter.is_ascii_digit() || **letter == '.';
-    let number: String = letters[*place..].iter().take_while(is_of_number).collect();
-    *place += number.len();
-    Ratio::of_decimal(&number).map(Linear::constant)
 }
 
 #[cfg(test)]
