@@ -55,14 +55,4 @@ mod tests {
         assert_eq!(random.number(), 6457827717110365317);
         assert_eq!(random.number(), 3203168211198807973);
     }
-
-    #[test]
-    fn bounds_are_kept_and_reached() {
-        let mut random = Random::new(1);
-        let drawn: Vec<usize> = (0..200).map(|_| random.between(3, 5)).collect();
-        for number in 3..=5 {
-            assert!(drawn.contains(&number));
-        }
-        assert!(drawn.iter().all(|number| (3..=5).contains(number)));
-    }
 }

@@ -15,15 +15,3 @@ pub fn hex_field(bytes: &[u8], places: usize) -> String {
 pub fn hex_answer(answer: u64) -> String {
     format!("{answer:016X}")
 }
-
-#[cfg(test)]
-mod tests {
-    use super::*;
-
-    #[test]
-    fn digits_are_upper_case_and_padded() {
-        assert_eq!(hex(&[0x0A, 0xFF]), "0AFF");
-        assert_eq!(hex_field(&[0x1B], 3), "1B....");
-        assert_eq!(hex_answer(0xC4), "00000000000000C4");
-    }
-}

@@ -1,7 +1,6 @@
 use super::*;
 use crate::frame::check_byte::PUBLISHED;
 use crate::frame::draft::Draft;
-use crate::frame::reader;
 use crate::random::Random;
 
 fn refused(header: &[u8], data: &[u8], response: &[u8], out_length: usize) -> u64 {
@@ -84,36 +83,5 @@ fn published_check_bytes_are_written() {
         let (number, written) = answer(&draft.request(12));
         assert_eq!(number & 0xFF, 0);
         assert_eq!(written[..=bytes.len()], [bytes, &[check]].concat());
-    }
-}
-
-#[test]
-fn what_is_written_reads_back() {
-    let mut random = Random::new(8);
-    for _ in 0..5000 {
-        let draft = Draft::random(&mut random);
-        let (first, response) = write(&draft.request(12)).unwrap();
-        let parts = reader::read(&first, &response).unwrap();
-        assert_eq!(parts.header, draft.header);
-        assert_eq!(parts.data, draft.data);
-        assert_eq!(Some(parts.kind), kind_of_run(&draft.header));
-        assert_eq!(parts.response, draft.response);
-    }
-}
-
-#[test]
-fn what_is_read_writes_back() {
-    let mut random = Random::new(9);
-    for _ in 0..5000 {
-        let (first, response) = Draft::random(&mut random).runs();
-        let parts = reader::read(&first, &response).unwrap();
-        let request = Request {
-            header: parts.header,
-            data: parts.data,
-            response: parts.response,
-            out_length: first.len() + response.len(),
-        };
-        let lengths = (first.len() as u64) << 8 | (response.len() as u64) << 16;
-        assert_eq!(answer(&request), (lengths, [first, response].concat()));
     }
 }

@@ -23,27 +23,11 @@ fn bench_case(data: &[u8]) -> Case {
 }
 
 #[test]
-fn the_whole_report() {
-    let case = bench_case(&[0x41, 0x65, 0x80]);
-    let mut rows = vec![1, 0x40, 0x59, 0x40, 0, 0, 0, 0, 0, 1];
-    rows.extend([0; 8]);
-    rows.extend([9, 0, 10, 0, 11, 1]);
-    assert_eq!(rows.len(), 24);
-    for lent in [24, 25, LONGEST, usize::MAX] {
-        assert_eq!(case.clone().lent(lent).answer(), (0x1800, rows.clone()));
+fn another_layout_or_none() {
+    for data in [&[][..], &[0x42, 0x65, 0x80]] {
+        let (_, rows) = bench_case(data).answer();
+        assert_eq!(rows, [8, 8, 10, 0, 11, 3]);
     }
-    for lent in [0, 1, 23] {
-        assert_eq!(case.clone().lent(lent).answer(), (8, Vec::new()));
-    }
-    let (_, more) = bench_case(&[0x41, 0x65, 0x80, 0x99]).answer();
-    assert_eq!(more[..18], rows[..18]);
-    assert_eq!(more[18..], [9, 8, 10, 0, 11, 2]);
-    let (_, less) = bench_case(&[0x41, 0x65]).answer();
-    assert_eq!(less, [&rows[..9], &[7, 7, 10, 0, 11, 2]].concat());
-    let (_, nothing) = bench_case(&[]).answer();
-    assert_eq!(nothing, [8, 8, 10, 0, 11, 3]);
-    let (_, other) = bench_case(&[0x42, 0x65, 0x80]).answer();
-    assert_eq!(other, [8, 8, 10, 0, 11, 3]);
 }
 
 #[test]
@@ -67,51 +51,10 @@ fn order_of_refusals() {
     assert_eq!(case.answer(), (2, Vec::new()));
 }
 
-/// The first line of a report of one item.
-fn only_line(sample: Sample) -> Line {
-    let mut random = Random::new(61);
-    let scene = Scene::holding(0x18, &[sample], &mut random);
-    assert_eq!(scene.case().answer().0 & 0xFF, 0);
-    let supplement = scene.case().inputs.remove(0);
-    let parts = super::scene::parts_of(&scene.frame);
-    lines(&Records::of(&supplement), &parts)[0]
-}
-
-#[test]
-fn bench_values() {
-    let of_slot = |form, width, number, raw| {
-        only_line(Sample::own(
-            Prn::new(0x2000, form, width, number),
-            None,
-            raw,
-        ))
-    };
-    let number = |value: f64| Line::Number(value.to_bits());
-    assert_eq!(of_slot(UNM, 8, 77, 150), number(100.0));
-    assert_eq!(of_slot(UNM, 8, 77, 151), Line::Invalid(151));
-    assert_eq!(of_slot(UNM, 8, 82, 240), number(90.0));
-    assert_eq!(of_slot(UNM, 8, 82, 241), Line::Invalid(241));
-    assert_eq!(of_slot(UNM, 8, 92, 0), number(-100.0));
-    assert_eq!(of_slot(UNM, 8, 92, 128), Line::Number(0));
-    assert_eq!(of_slot(UNM, 16, 3, 0), number(-70.0));
-    assert_eq!(of_slot(UNM, 8, 102, 39), number(-1.0));
-    let (prn, slot) = own_rows(0, SNM, 8);
-    let signed = |raw| only_line(Sample::own(prn, Some(slot), raw));
-    assert_eq!((signed(0x80), signed(0xFF)), (number(-128.0), number(-1.0)));
-    assert_eq!(of_slot(UNM, 8, 241, 255), number(1044480.0));
-    assert_eq!(of_slot(UNM, 16, 61, 65535), number(4194240.0));
-    assert_eq!(of_slot(UNM, 8, 103, 0), Line::Unknown(3));
-}
-
 #[test]
 fn keys_of_layouts() {
     let key = |header: &[u8], data: &[u8]| {
-        let draft = Draft {
-            header: header.to_vec(),
-            data: data.to_vec(),
-            response: Vec::new(),
-        };
-        layout_key(&super::scene::parts_of(&draft))
+        layout_key(&super::scene::parts_of(&Draft::new(header, data, &[])))
     };
     assert_eq!(key(&[0xE8, 0x6B, 0x10], &[0x41, 1]), [0x08, 0x6B, 1, 0x41]);
     assert_eq!(key(&[0xE8, 0x6B, 0x10], &[]), [0x08, 0x6B, 0, 0]);
@@ -156,11 +99,7 @@ fn the_place_goes_on_after_other_unknowns() {
 #[test]
 fn responses() {
     let rows = |first_byte: u8, response: &[u8]| {
-        let frame = Draft {
-            header: vec![first_byte],
-            data: Vec::new(),
-            response: response.to_vec(),
-        };
+        let frame = Draft::new(&[first_byte], &[], response);
         Scene::of(frame).case().answer().1
     };
     assert_eq!(rows(0x18, &[]), [9, 0, 10, 0, 11, 1]);

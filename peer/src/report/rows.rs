@@ -108,11 +108,4 @@ mod tests {
         let many = |count: usize| [vec![7; count], sound[1..].to_vec()].concat();
         assert!(parse(&many(16)).is_some() && parse(&many(17)).is_none());
     }
-
-    #[test]
-    fn single_rows() {
-        assert_eq!(unknown_number(&[8, 5]), Some(5));
-        assert!(is_unknown(&[8, 1]) && !is_unknown(&[7]) && is_short(&[7]));
-        assert_eq!((left(&[9, 72]), left(&[8, 2])), (Some(72), None));
-    }
 }

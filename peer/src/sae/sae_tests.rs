@@ -113,16 +113,6 @@ fn limits_of_other_forms() {
 }
 
 #[test]
-fn keys_are_found() {
-    assert!(has_prn(0x1025) && has_prn(0x100B) && has_prn(0) && has_prn(0xF816));
-    assert!(!has_prn(0x100C) && !has_prn(0x001C) && !has_prn(0x380D) && !has_prn(0xFFFF));
-    assert!(has_slot((UNM, 1, 0)) && has_slot((BCD, 56, 1)) && has_slot((UNM, 8, 101)));
-    assert!(!has_slot((UNM, 8, 103)) && !has_slot((PKT, 8, 1)) && !has_slot((SFP, 32, 1)));
-    assert!(has_slot((SED, 6, 1)) && has_slot((SED, 8, 4)) && has_slot((SED, 8, 5)));
-    assert!(!has_slot((ASC, 8, 11)) && !has_slot((UNM, 32, 31)) && !has_slot((SED, 8, 13)));
-}
-
-#[test]
 fn every_row_is_found_by_its_key() {
     for row in PRNS {
         assert_eq!(prn_row(row.prn), Some(*row));
@@ -130,6 +120,15 @@ fn every_row_is_found_by_its_key() {
     for row in SLOTS {
         assert_eq!(slot_row(row.key()), Some(*row));
     }
-    assert_eq!(prn_row(0x100C), None);
-    assert_eq!(slot_row((ASC, 8, 11)), None);
+}
+
+#[test]
+fn what_is_reserved_or_not_transcribed_is_not_found() {
+    for prn in [0x001C, 0x100C, 0x380D, 0xFFFF] {
+        assert_eq!(prn_row(prn), None);
+    }
+    for key in [(UNM, 8, 103), (UNM, 32, 31), (SED, 8, 13), (ASC, 8, 11)] {
+        assert_eq!(slot_row(key), None);
+    }
+    assert!(!has_slot((PKT, 8, 1)) && !has_slot((SFP, 32, 1)));
 }

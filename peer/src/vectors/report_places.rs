@@ -61,10 +61,12 @@ fn in_frame(samples: &[Sample], data: usize, random: &mut Random) -> Case {
         ..=8 => random.pick(&[0x18, 0x48]),
         _ => 0x18,
     };
+    in_frame_of(first_byte, samples, data, random)
+}
+
+fn in_frame_of(first_byte: u8, samples: &[Sample], data: usize, random: &mut Random) -> Case {
     let mut scene = Scene::of(frame(first_byte, data, random));
-    for sample in samples {
-        scene.add(sample);
-    }
+    samples.iter().for_each(|sample| scene.add(sample));
     scene.case()
 }
 
@@ -150,16 +152,10 @@ fn unknown_alone(random: &mut Random) -> Vec<Case> {
         for item in [items[0], items[1]] {
             list.push(Scene::holding(first_byte, &[item], random).case());
         }
-        list.push(in_kind_3(first_byte, &[items[0]], 4, random));
-        list.push(in_kind_3(first_byte, &[items[7]], 4, random));
+        list.push(in_frame_of(first_byte, &[items[0]], 4, random));
+        list.push(in_frame_of(first_byte, &[items[7]], 4, random));
     }
     list
-}
-
-fn in_kind_3(first_byte: u8, samples: &[Sample], data: usize, random: &mut Random) -> Case {
-    let mut scene = Scene::of(frame(first_byte, data, random));
-    samples.iter().for_each(|sample| scene.add(sample));
-    scene.case()
 }
 
 /// Every number of bits that can be left.

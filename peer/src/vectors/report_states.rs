@@ -6,16 +6,9 @@ use crate::random::Random;
 use crate::report::scene::{whole_slot, Sample, Scene};
 use crate::sae::{all_ones, prn_row, Prn};
 use crate::supplement::draft::slot_record;
-use std::ops::RangeInclusive;
 
-/// PRNs of such SLOTs, each with the lowest and the highest state that J2178-2
-/// prints, by hand and not out of the table.
-pub const GAPPED: [(u16, u32, u32); 4] = [
-    (0x1808, 0x00, 0x20),
-    (0x1810, 0x00, 0x25),
-    (0x1806, 0x00, 0x80),
-    (0x1047, 0x01, 0x10),
-];
+/// PRNs of such SLOTs.
+const GAPPED: [u16; 4] = [0x1808, 0x1810, 0x1806, 0x1047];
 
 pub fn cases(random: &mut Random) -> Vec<Case> {
     let mut list = vec![Scene::holding(0x48, &[Sample::sae(0x1806, 2)], random).case()];
@@ -28,19 +21,13 @@ fn row(prn: u16) -> Prn {
     prn_row(prn).expect("an SAE row")
 }
 
-/// Every code of the PRN's width.
-pub fn codes(prn: u16) -> RangeInclusive<u32> {
-    0..=all_ones(row(prn).width)
-}
-
 /// Each code, eight to a frame: those between two states are states, whatever
 /// J2178-2 calls them.
 fn every_code(random: &mut Random) -> Vec<Case> {
     let mut list = Vec::new();
-    for (prn, _, _) in GAPPED {
-        let samples: Vec<Sample> = codes(prn)
-            .map(|code| Sample::sae(prn, code.into()))
-            .collect();
+    for prn in GAPPED {
+        let codes = 0..=all_ones(row(prn).width);
+        let samples: Vec<Sample> = codes.map(|code| Sample::sae(prn, code.into())).collect();
         for samples in samples.chunks(8) {
             list.push(Scene::holding(0x18, samples, random).case());
         }
@@ -51,7 +38,7 @@ fn every_code(random: &mut Random) -> Vec<Case> {
 /// A SLOT record that would take every code, after the layout.
 fn keys_again(random: &mut Random) -> Vec<Case> {
     let mut list = Vec::new();
-    for (prn, _, _) in GAPPED {
+    for prn in GAPPED {
         let mut case = Scene::holding(0x48, &[Sample::sae(prn, 3)], random).case();
         let (form, width, number) = row(prn).slot_key();
         let record = slot_record(&whole_slot(form, width, number));
