@@ -40,6 +40,14 @@ impl Random {
         (0..length).map(|_| self.byte()).collect()
     }
 
+    /// Turns one bit of the run over, if it has any.
+    pub fn flip_bit(&mut self, run: &mut [u8]) {
+        if !run.is_empty() {
+            let place = self.below(run.len());
+            run[place] ^= 1 << self.below(8);
+        }
+    }
+
     pub fn pick<T: Copy>(&mut self, choices: &[T]) -> T {
         choices[self.below(choices.len())]
     }

@@ -12,7 +12,7 @@ pub mod scene_random;
 
 use crate::frame::reader::{self, Parts};
 use crate::frame::refusal::OUTPUT_SHORT;
-use crate::sae::{self, Prn, Slot};
+use crate::sae::{self, Key, Prn, Slot};
 use crate::supplement;
 use crate::supplement::layout::Layout;
 use crate::supplement::records::Records;
@@ -46,7 +46,7 @@ pub fn find_prn(records: &Records, prn: u16) -> Option<Prn> {
     sae::prn_row(prn).or_else(|| records.prn(prn))
 }
 
-fn find_slot(records: &Records, key: (u8, u8, u16)) -> Option<Slot> {
+fn find_slot(records: &Records, key: Key) -> Option<Slot> {
     sae::slot_row(key).or_else(|| records.slot(key))
 }
 

@@ -9,6 +9,9 @@ mod source;
 pub use prns::PRNS;
 pub use slots::SLOTS;
 
+/// Form, width and number of a SLOT.
+pub type Key = (u8, u8, u16);
+
 /// Where a PRN's item is described: the SLOT of this form, width and number.
 #[derive(Clone, Copy, Debug, PartialEq)]
 pub struct Prn {
@@ -20,7 +23,7 @@ pub struct Prn {
 
 impl Prn {
     /// The key of the SLOT.
-    pub fn slot_key(&self) -> (u8, u8, u16) {
+    pub fn slot_key(&self) -> Key {
         (self.form, self.width, self.number)
     }
 
@@ -49,7 +52,21 @@ pub struct Slot {
 }
 
 impl Slot {
-    pub fn key(&self) -> (u8, u8, u16) {
+    /// The scale is multiplier, divisor and offset.
+    pub const fn new(key: Key, scale: (u16, u16, i32), limits: (u32, u32)) -> Slot {
+        Slot {
+            form: key.0,
+            width: key.1,
+            number: key.2,
+            multiplier: scale.0,
+            divisor: scale.1,
+            offset: scale.2,
+            lowest: limits.0,
+            highest: limits.1,
+        }
+    }
+
+    pub fn key(&self) -> Key {
         (self.form, self.width, self.number)
     }
 }
@@ -61,7 +78,7 @@ pub fn prn_row(prn: u16) -> Option<Prn> {
 }
 
 /// The row of this form, width and number.
-pub fn slot_row(key: (u8, u8, u16)) -> Option<Slot> {
+pub fn slot_row(key: Key) -> Option<Slot> {
     let place = SLOTS.binary_search_by_key(&key, Slot::key);
     place.ok().map(|place| SLOTS[place])
 }
@@ -70,7 +87,7 @@ pub fn has_prn(prn: u16) -> bool {
     prn_row(prn).is_some()
 }
 
-pub fn has_slot(key: (u8, u8, u16)) -> bool {
+pub fn has_slot(key: Key) -> bool {
     slot_row(key).is_some()
 }
 

@@ -125,21 +125,14 @@ fn lengthen(run: &mut Vec<u8>, others: usize, random: &mut Random) {
 /// or the response's check byte.
 pub fn spoil_runs(runs: &mut (Vec<u8>, Vec<u8>), random: &mut Random) {
     match random.below(8) {
-        0 => flip_bit(&mut runs.0, random),
-        1 => flip_bit(&mut runs.1, random),
+        0 => random.flip_bit(&mut runs.0),
+        1 => random.flip_bit(&mut runs.1),
         2 => move_end_of_data(runs, random),
         3 => runs.0.truncate(random.below(4)),
         4 => runs.1.truncate(random.below(3)),
         5 => std::mem::swap(&mut runs.0, &mut runs.1),
         6 => set_bare_header(runs, random),
         _ => set_check_over_frame(runs, random),
-    }
-}
-
-fn flip_bit(run: &mut [u8], random: &mut Random) {
-    if !run.is_empty() {
-        let place = random.below(run.len());
-        run[place] ^= 1 << random.below(8);
     }
 }
 
@@ -164,7 +157,7 @@ fn set_check_over_frame(runs: &mut (Vec<u8>, Vec<u8>), random: &mut Random) {
         .first()
         .is_some_and(|byte| response_kind(*byte) == Some(3));
     if !is_kind_3 || response.is_empty() {
-        return flip_bit(response, random);
+        return random.flip_bit(response);
     }
     let data = response.len() - 1;
     let before = if random.once_in(2) {

@@ -2,7 +2,7 @@
 
 use super::check_byte::checked;
 use super::header::{header_length, kind_of_run, response_kind};
-use super::writer::{first_run, response_run, result_length, Request};
+use super::writer::{first_run, response_run, result_length};
 use super::MOST_BYTES;
 use crate::random::Random;
 
@@ -18,8 +18,7 @@ impl Draft {
     /// An acceptable frame; each kind and form is as likely as another, and
     /// one in four is filled up to twelve bytes.
     pub fn random(random: &mut Random) -> Draft {
-        let priority = random.byte() & 0xE0;
-        let first_byte = random.pick(&FIRST_BYTES[..8]) & 0x1F | priority;
+        let first_byte = random_first_byte(random);
         Draft::random_of(another_type(first_byte, random), random)
     }
 
@@ -65,23 +64,9 @@ impl Draft {
         }
     }
 
-    pub fn request(&self, out_length: usize) -> Request<'_> {
-        let Draft {
-            header,
-            data,
-            response,
-        } = self;
-        Request {
-            header,
-            data,
-            response,
-            out_length,
-        }
-    }
-
     /// The length of both runs together, check bytes included.
     pub fn length(&self) -> usize {
-        result_length(&self.request(0))
+        result_length(&self.header, &self.data, &self.response)
     }
 
     /// Both runs with their check bytes.
@@ -97,21 +82,22 @@ impl Draft {
 /// One first byte for each kind and form, then two unassigned ones.
 pub const FIRST_BYTES: [u8; 10] = [0x48, 0x81, 0x22, 0x63, 0xB8, 0x74, 0x10, 0xD3, 0xA5, 0x37];
 
+/// Each assigned kind and form as likely as another, with any priority.
+pub fn random_first_byte(random: &mut Random) -> u8 {
+    let priority = random.byte() & 0xE0;
+    random.pick(&FIRST_BYTES[..8]) & 0x1F | priority
+}
+
 /// How many data and response bytes a frame can have between them.
 pub fn room(first_byte: u8) -> usize {
-    let check_bytes = if response_kind(first_byte) == Some(3) {
-        2
-    } else {
-        1
-    };
+    let check_bytes = 1 + usize::from(response_kind(first_byte) == Some(3));
     MOST_BYTES - header_length(first_byte) - check_bytes
 }
 
 /// The same first byte, or one of another type with the same kind.
 fn another_type(first_byte: u8, random: &mut Random) -> u8 {
-    let types: Vec<u8> = (0..16).collect();
     let same_kind = |number: &u8| response_kind(*number) == response_kind(first_byte);
-    let choices: Vec<u8> = types.into_iter().filter(same_kind).collect();
+    let choices: Vec<u8> = (0..16).filter(same_kind).collect();
     first_byte & 0xF0 | random.pick(&choices)
 }
 

@@ -16,12 +16,10 @@ pub struct Request<'a> {
 }
 
 /// The length of both runs together, check bytes included.
-pub fn result_length(request: &Request) -> usize {
-    let check_bytes = 1 + usize::from(kind_of_run(request.header) == Some(3));
-    let given = [request.header, request.data, request.response];
-    given
-        .iter()
-        .fold(check_bytes, |sum: usize, run| sum.saturating_add(run.len()))
+pub fn result_length(header: &[u8], data: &[u8], response: &[u8]) -> usize {
+    let check_bytes = 1 + usize::from(kind_of_run(header) == Some(3));
+    let given = [header, data, response].map(<[u8]>::len);
+    given.into_iter().fold(check_bytes, usize::saturating_add)
 }
 
 /// Header, data and their check byte.
@@ -49,10 +47,11 @@ pub fn write(request: &Request) -> Result<(Vec<u8>, Vec<u8>), u8> {
     if is_count_wrong(kind, request.response) {
         return Err(RESPONSE_COUNT);
     }
-    if result_length(request) > MOST_BYTES {
+    let need = result_length(request.header, request.data, request.response);
+    if need > MOST_BYTES {
         return Err(TOO_LONG);
     }
-    if request.out_length < result_length(request) {
+    if request.out_length < need {
         return Err(OUTPUT_SHORT);
     }
     let first = first_run(request.header, request.data);

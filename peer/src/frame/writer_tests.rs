@@ -1,4 +1,5 @@
 use super::*;
+use crate::case::Case;
 use crate::frame::check_byte::PUBLISHED;
 use crate::frame::draft::Draft;
 use crate::random::Random;
@@ -80,7 +81,7 @@ fn published_check_bytes_are_written() {
     let mut random = Random::new(7);
     for (bytes, check) in PUBLISHED {
         let draft = Draft::around(bytes, &mut random);
-        let (number, written) = answer(&draft.request(12));
+        let (number, written) = Case::write(draft, 12).answer();
         assert_eq!(number & 0xFF, 0);
         assert_eq!(written[..=bytes.len()], [bytes, &[check]].concat());
     }

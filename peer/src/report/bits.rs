@@ -69,23 +69,6 @@ mod tests {
     }
 
     #[test]
-    fn what_is_put_is_cut_and_nothing_else_changes() {
-        let mut random = Random::new(44);
-        for _ in 0..3000 {
-            let before = random.bytes(9);
-            let width = random.between(1, 64);
-            let start = random.below(73 - width);
-            let raw = random.number() >> (64 - width);
-            let mut after = before.clone();
-            put(&mut after, start, width, raw);
-            assert_eq!(cut(&after, start, width), raw);
-            for place in (0..start).chain(start + width..72) {
-                assert_eq!(bit(&before, place), bit(&after, place));
-            }
-        }
-    }
-
-    #[test]
     fn twos_complement() {
         assert_eq!(signed(0x80, 8), -128);
         assert_eq!(signed(0xFF, 8), -1);

@@ -117,37 +117,21 @@ mod tests {
     #[test]
     fn rows() {
         let number = Line::Number(101.0_f64.to_bits());
-        assert_eq!(row(&number), [1, 0x40, 0x59, 0x40, 0, 0, 0, 0, 0]);
-        assert_eq!(row(&Line::State(0x25)), [2, 0, 0, 0, 0x25]);
-        assert_eq!(row(&Line::Bits(0x8000_0001)), [3, 0x80, 0, 0, 1]);
-        assert_eq!(row(&Line::Text(0x4142)), [4, 0, 0, 0x41, 0x42]);
-        assert_eq!(row(&Line::Digits(0x123)), [5, 0, 0, 1, 0x23]);
-        assert_eq!(row(&Line::Invalid(0xF1)), [6, 0, 0, 0, 0xF1]);
-        assert_eq!(row(&Line::Short), [7]);
-        assert_eq!(row(&Line::Unknown(5)), [8, 5]);
-        assert_eq!(row(&Line::Left(72)), [9, 72]);
-        assert_eq!(row(&Line::Answered(2)), [10, 2]);
-    }
-
-    #[test]
-    fn bodies_have_their_lengths() {
-        let code = 0x1234_5678;
-        let lines = [
-            Line::Number(7),
-            Line::State(code),
-            Line::Bits(code),
-            Line::Text(code),
-            Line::Digits(code),
-            Line::Invalid(code),
-            Line::Short,
-            Line::Unknown(1),
-            Line::Left(0),
-            Line::Answered(0),
+        let printed: [(Line, &[u8]); 10] = [
+            (number, &[1, 0x40, 0x59, 0x40, 0, 0, 0, 0, 0]),
+            (Line::State(0x25), &[2, 0, 0, 0, 0x25]),
+            (Line::Bits(0x8000_0001), &[3, 0x80, 0, 0, 1]),
+            (Line::Text(0x4142), &[4, 0, 0, 0x41, 0x42]),
+            (Line::Digits(0x123), &[5, 0, 0, 1, 0x23]),
+            (Line::Invalid(0xF1), &[6, 0, 0, 0, 0xF1]),
+            (Line::Short, &[7]),
+            (Line::Unknown(5), &[8, 5]),
+            (Line::Left(72), &[9, 72]),
+            (Line::Answered(2), &[10, 2]),
         ];
-        for (place, line) in lines.iter().enumerate() {
-            let row = row(line);
-            assert_eq!(usize::from(row[0]), place + 1);
-            assert_eq!(Some(row.len()), row_length(row[0]));
+        for (line, bytes) in printed {
+            assert_eq!(row(&line), bytes);
+            assert_eq!(row_length(bytes[0]), Some(bytes.len()));
         }
     }
 

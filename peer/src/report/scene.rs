@@ -8,7 +8,7 @@ use crate::frame::header::{kind_of_run, response_kind};
 use crate::frame::reader::Parts;
 use crate::random::Random;
 use crate::sae::form::SNM;
-use crate::sae::{all_ones, has_prn, has_slot, prn_row, Prn, Slot};
+use crate::sae::{all_ones, has_prn, has_slot, prn_row, Key, Prn, Slot};
 use crate::supplement::draft::{layout_record, prn_record, slot_record, Bytes};
 use crate::supplement::layout::Layout;
 use crate::supplement::record::PLACES;
@@ -26,15 +26,8 @@ pub struct Sample {
 impl Sample {
     /// A PRN of the SAE tables.
     pub fn sae(prn: u16, raw: u64) -> Sample {
-        let row = prn_row(prn);
-        assert!(row.is_some(), "{prn:04X} is in the SAE tables");
-        let slot = None;
-        Sample {
-            prn,
-            row,
-            slot,
-            raw,
-        }
+        let row = prn_row(prn).expect("a PRN of the SAE tables");
+        Sample::own(row, None, raw)
     }
 
     /// A PRN with the row given, and the SLOT if there is one.
@@ -50,12 +43,11 @@ impl Sample {
     /// A PRN of no table.
     pub fn missing(prn: u16) -> Sample {
         assert!(!has_prn(prn), "{prn:04X} is in no table");
-        let (row, slot, raw) = (None, None, 0);
         Sample {
             prn,
-            row,
-            slot,
-            raw,
+            row: None,
+            slot: None,
+            raw: 0,
         }
     }
 
@@ -87,16 +79,7 @@ pub fn whole_slot(form: u8, width: u8, number: u16) -> Slot {
         highest >>= 1;
         lowest = !highest;
     }
-    Slot {
-        form,
-        width,
-        number,
-        multiplier: 1,
-        divisor: 1,
-        offset: 0,
-        lowest,
-        highest,
-    }
+    Slot::new((form, width, number), (1, 1, 0), (lowest, highest))
 }
 
 #[derive(Clone, Debug)]
@@ -158,7 +141,7 @@ impl Scene {
         self.slots.extend(slot);
     }
 
-    fn has_slot(&self, key: (u8, u8, u16)) -> bool {
+    fn has_slot(&self, key: Key) -> bool {
         self.slots.iter().any(|slot| slot.key() == key)
     }
 

@@ -3,7 +3,7 @@
 
 use super::item::{limits, raw_number};
 use super::scene::{Sample, Scene};
-use crate::frame::draft::{room, Draft, FIRST_BYTES};
+use crate::frame::draft::{random_first_byte, room, Draft};
 use crate::frame::header::response_kind;
 use crate::random::Random;
 use crate::sae::form::*;
@@ -38,8 +38,7 @@ pub fn scene(random: &mut Random) -> Scene {
 
 /// Each kind and form, and longer data more often.
 fn frame(random: &mut Random) -> Draft {
-    let priority = random.byte() & 0xE0;
-    let first_byte = random.pick(&FIRST_BYTES[..8]) & 0x1F | priority;
+    let first_byte = random_first_byte(random);
     let room = room(first_byte);
     let response = match response_kind(first_byte) {
         Some(0) => 0,

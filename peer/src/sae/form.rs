@@ -19,16 +19,3 @@ pub fn of_letters(letters: &str) -> Option<u8> {
     let place = LETTERS.iter().position(|known| *known == letters)?;
     Some(place as u8 + 1)
 }
-
-#[cfg(test)]
-mod tests {
-    use super::*;
-
-    #[test]
-    fn numbers_follow_the_letters() {
-        assert_eq!(of_letters("UNM"), Some(UNM));
-        assert_eq!(of_letters("BCD"), Some(BCD));
-        assert_eq!(of_letters("PKT"), Some(PKT));
-        assert_eq!(of_letters("ABC"), None);
-    }
-}

@@ -24,16 +24,8 @@ const PUBLISHED: [(u8, u16, u16, u16, i32, u32); 10] = [
 #[test]
 fn the_ten_slots_of_the_paper() {
     for (width, number, multiplier, divisor, offset, highest) in PUBLISHED {
-        let expected = Slot {
-            form: UNM,
-            width,
-            number,
-            multiplier,
-            divisor,
-            offset,
-            lowest: 0,
-            highest,
-        };
+        let scale = (multiplier, divisor, offset);
+        let expected = Slot::new((UNM, width, number), scale, (0, highest));
         assert_eq!(slot(UNM, width, number), expected);
     }
 }

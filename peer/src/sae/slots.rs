@@ -167,38 +167,25 @@ pub const SLOTS: &[Slot] = &[
 type Scale = (u16, u16, i32);
 
 const fn unm(width: u8, number: u16, scale: Scale, limits: (u32, u32)) -> Slot {
-    slot((UNM, width, number), scale, limits)
+    Slot::new((UNM, width, number), scale, limits)
 }
 
 const fn snm(width: u8, number: u16, scale: Scale, limits: (i32, i32)) -> Slot {
     let patterns = (limits.0 as u32, limits.1 as u32);
-    slot((SNM, width, number), scale, patterns)
+    Slot::new((SNM, width, number), scale, patterns)
 }
 
 /// Zero fill.
 const fn zeros(width: u8) -> Slot {
-    slot((UNM, width, 0), (0, 1, 0), (0, 0))
+    Slot::new((UNM, width, 0), (0, 1, 0), (0, 0))
 }
 
 /// The limits are the lowest and the highest state.
 const fn sed(width: u8, number: u16, limits: (u32, u32)) -> Slot {
-    slot((SED, width, number), (1, 1, 0), limits)
+    Slot::new((SED, width, number), (1, 1, 0), limits)
 }
 
 /// Every raw number of the width.
 const fn whole(form: u8, width: u8, number: u16) -> Slot {
-    slot((form, width, number), (1, 1, 0), (0, all_ones(width)))
-}
-
-const fn slot(key: (u8, u8, u16), scale: Scale, limits: (u32, u32)) -> Slot {
-    Slot {
-        form: key.0,
-        width: key.1,
-        number: key.2,
-        multiplier: scale.0,
-        divisor: scale.1,
-        offset: scale.2,
-        lowest: limits.0,
-        highest: limits.1,
-    }
+    Slot::new((form, width, number), (1, 1, 0), (0, all_ones(width)))
 }

@@ -2,7 +2,7 @@
 
 use super::layout::Layout;
 use super::record::{length_of, Record};
-use crate::sae::{Prn, Slot};
+use crate::sae::{Key, Prn, Slot};
 
 #[derive(Clone, Debug, Default, PartialEq)]
 pub struct Records {
@@ -27,7 +27,7 @@ impl Records {
         records
     }
 
-    pub fn slot(&self, key: (u8, u8, u16)) -> Option<Slot> {
+    pub fn slot(&self, key: Key) -> Option<Slot> {
         self.slots.iter().find(|slot| slot.key() == key).copied()
     }
 

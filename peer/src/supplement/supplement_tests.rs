@@ -5,16 +5,7 @@ use super::*;
 use crate::sae::form::*;
 use crate::sae::{Prn, Slot, PRNS, SLOTS};
 
-const OWN_SLOT: Slot = Slot {
-    form: UNM,
-    width: 8,
-    number: 1000,
-    multiplier: 1,
-    divisor: 1,
-    offset: -40,
-    lowest: 0,
-    highest: 255,
-};
+const OWN_SLOT: Slot = Slot::new((UNM, 8, 1000), (1, 1, -40), (0, 255));
 
 const OWN_PRN: Prn = Prn::new(0x1234, UNM, 8, 1000);
 
@@ -234,6 +225,6 @@ fn lowest_number_of_the_first_faulty_record() {
     let sae = prn_record(&Prn::new(0x1025, UNM, 8, 101));
     let sae_first = [&sae[..], &slot_record(&bad), &[0]].concat();
     assert_eq!(answer(&sae_first), 15);
-    let cut_sae = [&slot_record(&OWN_SLOT)[..], &sae[..6]].concat();
+    let cut_sae = [&slot_record(&OWN_SLOT)[..], &sae[..sae.len() - 1]].concat();
     assert_eq!(answer(&cut_sae), refused_answer(12, length_of(SLOT)));
 }

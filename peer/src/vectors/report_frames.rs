@@ -214,16 +214,9 @@ fn random_scenes(random: &mut Random) -> Vec<Case> {
         let mut case = Case::report(records.concat(), scene.frame.runs());
         if random.once_in(6) {
             let run = random.below(3);
-            turn_bit(&mut case.inputs[run], random);
+            random.flip_bit(&mut case.inputs[run]);
         }
         list.push(case.lent(random.pick(&[LONGEST, LONGEST, 60, MOST_LENT])));
     }
     list
-}
-
-fn turn_bit(run: &mut [u8], random: &mut Random) {
-    if !run.is_empty() {
-        let place = random.below(run.len());
-        run[place] ^= 1 << random.below(8);
-    }
 }

@@ -18,23 +18,10 @@ pub fn slots(text: &str) -> Vec<(String, Option<Slot>)> {
         };
         let slot = slot_reference(name)
             .zip(limits)
-            .map(|(key, limits)| unscaled(key, limits));
+            .map(|(key, limits)| Slot::new(key, (1, 1, 0), limits));
         list.push((name.to_string(), slot));
     }
     list
-}
-
-fn unscaled(key: (u8, u8, u16), limits: (u32, u32)) -> Slot {
-    Slot {
-        form: key.0,
-        width: key.1,
-        number: key.2,
-        multiplier: 1,
-        divisor: 1,
-        offset: 0,
-        lowest: limits.0,
-        highest: limits.1,
-    }
 }
 
 /// The codes between two states of a SED SLOT that are none themselves, with

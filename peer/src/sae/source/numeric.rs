@@ -3,9 +3,7 @@
 use super::linear::{Linear, Ratio};
 use super::table::{cells, slot_reference};
 use crate::sae::form::{self, SNM, UNM};
-use crate::sae::{all_ones, Slot};
-
-type Key = (u8, u8, u16);
+use crate::sae::{all_ones, Key, Slot};
 
 /// Each SLOT printed by its name; none where it does not fit the fields.
 pub fn slots(text: &str) -> Vec<(String, Option<Slot>)> {
@@ -51,16 +49,7 @@ fn key(heading: (u8, Option<u8>), name: &str) -> Option<Key> {
 }
 
 fn zero_fill(key: Key) -> Slot {
-    Slot {
-        form: key.0,
-        width: key.1,
-        number: key.2,
-        multiplier: 0,
-        divisor: 1,
-        offset: 0,
-        lowest: 0,
-        highest: 0,
-    }
+    Slot::new(key, (0, 1, 0), (0, 0))
 }
 
 /// Cells: number, resolution, minimum, maximum, invalid range, N, E, comment.
@@ -72,16 +61,12 @@ fn scaled(key: Key, cells: &[&str]) -> Option<Slot> {
     if offset.below != 1 || divisor < 1 {
         return None;
     }
-    Some(Slot {
-        form: key.0,
-        width: key.1,
-        number: key.2,
-        multiplier: multiplier.try_into().ok()?,
-        divisor: divisor.try_into().ok()?,
-        offset: offset.above.try_into().ok()?,
-        lowest: raw.0 as u32,
-        highest: raw.1 as u32,
-    })
+    let scale = (
+        multiplier.try_into().ok()?,
+        divisor.try_into().ok()?,
+        offset.above.try_into().ok()?,
+    );
+    Some(Slot::new(key, scale, (raw.0 as u32, raw.1 as u32)))
 }
 
 /// The resolution's own fraction where E agrees with it, else E's in lowest

@@ -1,6 +1,6 @@
 //! Lines of the text taken apart.
 
-use crate::sae::form;
+use crate::sae::{form, Key};
 
 /// The cells between the bars of a table's row; none for another line.
 pub fn cells(line: &str) -> Vec<&str> {
@@ -28,7 +28,7 @@ pub fn first_words(line: &str) -> (&str, String) {
 }
 
 /// Form, width and number of a reference like UNM-08-101.
-pub fn slot_reference(text: &str) -> Option<(u8, u8, u16)> {
+pub fn slot_reference(text: &str) -> Option<Key> {
     let parts: Vec<&str> = text.split('-').collect();
     let [letters, width, number] = parts[..] else {
         return None;
