@@ -26,12 +26,14 @@ impl Outcome {
         self
     }
 
-    /// Cut to 32 bits, each long run would be sound.
+    /// Cut to 32 bits, each long run would be sound. The short ones are vectors,
+    /// so that a call that writes to one does not end the program.
     fn lend_long(&mut self, archive: Archive, call: Call, block: &mut [u8]) {
-        let record = prn_record(&Prn::new(0x1234, UNM, 8, 101));
-        let (frame, response): (&[u8], &[u8]) = (&checked(&[0x12]), &[9]);
+        let record = &prn_record(&Prn::new(0x1234, UNM, 8, 101))[..];
+        let (frame, response) = (&checked(&[0x12])[..], &vec![9][..]);
+        let (kind_1, kind_2, data) = (&vec![0x11][..], &vec![0x12][..], &vec![1, 2][..]);
         let out = &mut [0; SHORT_OUTPUT];
-        let start = if call == Call::Check { &record } else { frame };
+        let start = if call == Call::Check { record } else { frame };
         block[..start.len()].copy_from_slice(start);
         let long = |length: usize| &block[..EXCESS + length];
         match call {
@@ -41,11 +43,11 @@ impl Outcome {
             }
             Call::Write => {
                 self.compare_long(archive, call, &[long(1), &[], response], out);
-                self.compare_long(archive, call, &[&[0x12], long(1), response], out);
-                self.compare_long(archive, call, &[&[0x12], &[], long(1)], out);
-                self.compare_long(archive, call, &[&[0x11], &[], long(1)], out);
+                self.compare_long(archive, call, &[kind_2, long(1), response], out);
+                self.compare_long(archive, call, &[kind_2, &[], long(1)], out);
+                self.compare_long(archive, call, &[kind_1, &[], long(1)], out);
                 let out = &mut block[..EXCESS + 1];
-                self.compare_long(archive, call, &[&[0x12], &[1, 2], response], out);
+                self.compare_long(archive, call, &[kind_2, data, response], out);
             }
             Call::Check => {
                 self.compare_long(archive, call, &[long(0)], out);
