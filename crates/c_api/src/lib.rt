@@ -9,11 +9,19 @@ use report::answer::report;
 ghost use mathlib.Core.Path.{_≡_};
 ghost use lib.ListN.{length};
 ghost use Rattle.frame.specs.Reader.{readFrame, sizes};
-ghost use Rattle.frame.specs.Writer.{writeFrame, runs, outAfter};
+ghost use Rattle.frame.specs.Writer.{writeFrame, runs, outWritten};
 ghost use Rattle.catalogue.specs.Supplement.{check};
-ghost use Rattle.report.specs.Answer.{reportAnswer, sized};
-ghost use Rattle.report.specs.Answer as answer;
+ghost use Rattle.report.specs.Answer.{reportAnswer, sized, outAfter};
 ghost use Rattle.c_api.specs.Words.{readWord, writeWord, checkWord, reportWord};
+
+// What one counts for in bytes 1 to 4 of an answer; byte 0 is the refusal.
+const BYTE_1: u64 = 0x100;
+
+const BYTE_2: u64 = 0x1_0000;
+
+const BYTE_3: u64 = 0x100_0000;
+
+const BYTE_4: u64 = 0x1_0000_0000;
 
 // Reads a frame given as its two runs.
 #[no_mangle]
@@ -27,12 +35,12 @@ pub extern "C" fn rakhubole_j1850_read(first: &[u8], response: &[u8]) -> u64
             header,
             body,
             kind,
-            answer,
+            response: size,
         } => {
-            header as u64 * 0x100
-                + body as u64 * 0x1_0000
-                + kind as u64 * 0x100_0000
-                + answer as u64 * 0x1_0000_0000
+            header as u64 * BYTE_1
+                + body as u64 * BYTE_2
+                + kind as u64 * BYTE_3
+                + size as u64 * BYTE_4
         }
     }
 }
@@ -42,16 +50,16 @@ pub extern "C" fn rakhubole_j1850_read(first: &[u8], response: &[u8]) -> u64
 pub extern "C" fn rakhubole_j1850_write(
     header: &[u8],
     body: &[u8],
-    answer: &[u8],
+    response: &[u8],
     out: &mut [u8],
 ) -> u64
-    ensures told { λ r. ⌜ r ≡ writeWord (runs (writeFrame (now (header .entry)) (now (body .entry)) (now (answer .entry)) (length (now (out .entry))))) ⌝ }
-    ensures left { λ r. ⌜ now (out .exit) ≡ outAfter (writeFrame (now (header .entry)) (now (body .entry)) (now (answer .entry)) (length (now (out .entry)))) (now (out .entry)) ⌝ }
+    ensures told { λ r. ⌜ r ≡ writeWord (runs (writeFrame (now (header .entry)) (now (body .entry)) (now (response .entry)) (length (now (out .entry))))) ⌝ }
+    ensures left { λ r. ⌜ now (out .exit) ≡ outWritten (writeFrame (now (header .entry)) (now (body .entry)) (now (response .entry)) (length (now (out .entry)))) (now (out .entry)) ⌝ }
 {
-    let writing = write_frame(header, body, answer, out);
+    let writing = write_frame(header, body, response, out);
     match writing {
         Writing::Refused(n) => n as u64,
-        Writing::Written { first, response } => first as u64 * 0x100 + response as u64 * 0x1_0000,
+        Writing::Written { first, response } => first as u64 * BYTE_1 + response as u64 * BYTE_2,
     }
 }
 
@@ -61,7 +69,7 @@ pub extern "C" fn rakhubole_supplement_check(supplement: &[u8]) -> u64
     ensures { λ r. ⌜ r ≡ checkWord (check (now (supplement .entry))) ⌝ }
 {
     let checked = check_supplement(supplement);
-    checked.refusal as u64 + checked.place as u64 * 0x100
+    checked.refusal as u64 + checked.place as u64 * BYTE_1
 }
 
 // Reports a frame under a supplement: the rows at the start of `out`.
@@ -73,11 +81,11 @@ pub extern "C" fn rakhubole_j1850_report(
     out: &mut [u8],
 ) -> u64
     ensures told { λ r. ⌜ r ≡ reportWord (sized (reportAnswer (now (supplement .entry)) (now (first .entry)) (now (response .entry)) (length (now (out .entry))))) ⌝ }
-    ensures left { λ r. ⌜ now (out .exit) ≡ answer.outAfter (reportAnswer (now (supplement .entry)) (now (first .entry)) (now (response .entry)) (length (now (out .entry)))) (now (out .entry)) ⌝ }
+    ensures left { λ r. ⌜ now (out .exit) ≡ outAfter (reportAnswer (now (supplement .entry)) (now (first .entry)) (now (response .entry)) (length (now (out .entry)))) (now (out .entry)) ⌝ }
 {
     let reported = report(supplement, first, response, out);
     match reported {
-        Reported::Refused(n, place) => n as u64 + place as u64 * 0x100,
-        Reported::Shown(size) => size as u64 * 0x100,
+        Reported::Refused(n, place) => n as u64 + place as u64 * BYTE_1,
+        Reported::Shown(size) => size as u64 * BYTE_1,
     }
 }

@@ -10,7 +10,7 @@ use borrow.Author.Tests.{eq-eqb, eqb-true, eqb-false, ltb-true, ltb-false, le-lt
 use lib.Dec.{eqb, ltb}
 use lib.ListN.{length, take, drop, length-take}
 use lib.Seq.{getD-take, length-take-le}
-use Rattle.frame.proofs.ByteLaws.{cases}
+use Rattle.frame.proofs.bytes.Laws.{cases}
 use Rattle.catalogue.specs.Search.{firstWhere, isFound}
 use Rattle.catalogue.proofs.SearchLaws.{both, found-is, none-is, none-found, not-found}
 use Rattle.catalogue.specs.declared.supplement.Checked.{Checked}

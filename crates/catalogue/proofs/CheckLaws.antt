@@ -9,8 +9,8 @@ use borrow.Author.Tests.{lt-ltb, le-ltb, ltb-false, lt-leb, leb-false, eq-eqb, n
 use lib.Dec.{ltb, eqb, lit<}
 use lib.ListN.{length, take, drop, getD, length-take, length-drop, drop-of-length-le}
 use lib.Seq.{getD-take, getD-drop}
-use Rattle.frame.proofs.ByteLaws.{cases}
-use Rattle.frame.proofs.RuleLaws.{kept, last-kept, none-broken}
+use Rattle.frame.proofs.bytes.Laws.{cases}
+use Rattle.frame.proofs.refusal.Laws.{kept, last-kept, none-broken}
 use Rattle.catalogue.specs.Search.{firstWhere, isFound}
 use Rattle.catalogue.specs.declared.supplement.Checked.{Checked}
 use Rattle.catalogue.specs.Record.{recordSize, kindOf, keyOf, hasKey, inRange, inSae, faultRules, fault}

@@ -12,7 +12,7 @@ use lib.Dec.{eqb}
 use lib.ListN.{length, getD, set, length-set}
 use lib.Pow.{pow-pos, pow-lt}
 use lib.Seq.{getD-set-same, getD-set-other}
-use Rattle.frame.proofs.ByteLaws.{cases}
+use Rattle.frame.proofs.bytes.Laws.{cases}
 use Rattle.catalogue.specs.Search.{firstWhere, isFound}
 use Rattle.catalogue.specs.Record.{recordSize, kindOf, keyOf, hasKey}
 use Rattle.catalogue.specs.Contracts.{bitOf, wordOf, marked, Marks, Covers}

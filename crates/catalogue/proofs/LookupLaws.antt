@@ -9,7 +9,7 @@ use borrow.Author.Tests.{leb-true, leb-false}
 use lib.Dec.{leb}
 use lib.ListN.{length, take, getD, length-take}
 use lib.Seq.{take-all, getD-take}
-use Rattle.frame.proofs.ByteLaws.{cases}
+use Rattle.frame.proofs.bytes.Laws.{cases}
 use Rattle.catalogue.specs.declared.rows.PrnRow.{PrnRow}
 use Rattle.catalogue.specs.declared.rows.SlotRow.{SlotRow}
 use Rattle.catalogue.specs.Rows.{prnFits, slotFits}

@@ -10,7 +10,7 @@ use lib.Bits.{bitOr, or-add-and, and-le-r}
 use lib.Dec.{eqb}
 use lib.ListN.{length, drop, getD, drop-of-length-le}
 use lib.Seq.{drop-cons}
-use Rattle.frame.proofs.ByteLaws.{cases}
+use Rattle.frame.proofs.bytes.Laws.{cases}
 use Rattle.catalogue.specs.Rows.{prnFits, slotFits}
 use Rattle.catalogue.specs.Search.{isFound}
 use Rattle.catalogue.specs.Sae.{saePrn, saeSlot}

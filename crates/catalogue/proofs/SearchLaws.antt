@@ -11,7 +11,7 @@ use borrow.Author.Tests.{ltb-true, ltb-false, eq-eqb, ne-eqb, eqb-true}
 use lib.Dec.{eqb, ltb}
 use lib.ListN.{length, take, drop, getD, getElem?, take-append-drop}
 use lib.Seq.{drop-cons}
-use Rattle.frame.proofs.ByteLaws.{cases}
+use Rattle.frame.proofs.bytes.Laws.{cases}
 use Rattle.catalogue.specs.Search.{firstWhere, isFound, every, rising}
 use Rattle.catalogue.specs.Contracts.{keyIs, rowsFrom}
 

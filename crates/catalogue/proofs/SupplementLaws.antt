@@ -10,7 +10,7 @@ use borrow.Author.Tests.{leb-true, leb-false}
 use lib.Dec.{leb}
 use lib.ListN.{length, take, drop, getD, length-drop, length-take, drop-of-length-le}
 use lib.Seq.{take-append-le, drop-append-le, take-length, drop-length, length-take-le, take-all, drop-drop, take-add, getD-drop, getD-take}
-use Rattle.frame.proofs.ByteLaws.{cases}
+use Rattle.frame.proofs.bytes.Laws.{cases}
 use mathlib.Core.Option.{none, some}
 use Rattle.catalogue.specs.Search.{firstWhere}
 use Rattle.catalogue.specs.Record.{recordSize, kindOf, hasKey}

@@ -16,7 +16,7 @@ use Rattle.catalogue.specs.Tables.{prnRows, slotRows}
 use Rattle.catalogue.specs.Search.{firstWhere, every, rising}
 use Rattle.catalogue.specs.Sae.{prnIs, slotIs, saePrn, saeSlot, packed, prnKey, slotKey, tablesHold}
 use Rattle.catalogue.specs.Contracts.{keyIs, prnAt, prnsIn, PrnPart, slotAt, slotsIn, SlotPart}
-use Rattle.frame.proofs.ByteLaws.{cases}
+use Rattle.frame.proofs.bytes.Laws.{cases}
 use Rattle.catalogue.proofs.RowLaws.{slot-ranges, SlotSizes, slot-sizes}
 use Rattle.catalogue.proofs.SearchLaws.{both, found-is, none-found, first-same, every-is, in-part, row-at, row-past, row-keys, by-key}
 

@@ -5,7 +5,7 @@ use mathlib.Core.List.{List, [], _∷_}
 use lib.Dec.{eqb, leb, ltb}
 use lib.ListN.{length, getD, take, drop}
 use Rattle.frame.specs.Header.{priority, bitH}
-use Rattle.frame.specs.Rule.{Rule, firstBroken}
+use Rattle.frame.specs.Refusal.{Rule, firstBroken}
 use Rattle.catalogue.specs.declared.rows.PrnRow.{PrnRow}
 use Rattle.catalogue.specs.declared.rows.SlotRow.{SlotRow}
 use Rattle.catalogue.specs.Rows.{prnFits, slotFits}

@@ -1,8 +1,14 @@
 // The published vectors of CRC-8/SAE-J1850: prints the check byte of each run, one a line.
 use libc::STDOUT_FILENO;
 
+const BYTE_DIGITS: usize = 2;
+
 fn show(run: &[u8]) {
-    io::print_hex(STDOUT_FILENO, frame::check_byte::check_byte(run) as u64, 2);
+    io::print_hex(
+        STDOUT_FILENO,
+        frame::check_byte::check_byte(run) as u64,
+        BYTE_DIGITS,
+    );
     io::write_all(STDOUT_FILENO, b"\n");
 }
 

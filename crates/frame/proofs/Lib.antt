@@ -1,9 +1,3 @@
--- Laws that belong to no one function.
-pub mod ByteLaws
-pub mod PlacedLaws
-pub mod RuleLaws
-pub mod CheckByteLaws
-pub mod HeaderLaws
-pub mod ReaderLaws
-pub mod WriterLaws
+-- What is proved of the definitions for who relies on them; the laws of each module stand below its name.
 pub mod RoundTrip
+pub mod Sentences

@@ -6,18 +6,38 @@ use lib.Bits.{bitXor}
 use lib.Dec.{ltb, eqb}
 use lib.ListN.{length, take, getD}
 
+-- "polynomial x^8+x^4+x^3+x^2+1": its terms below x^8.
+abbrev pub Polynomial : ℕ
+Polynomial = 0x1D
+
+-- "register starts all ones"
+abbrev pub AllOnes : ℕ
+AllOnes = 0xFF
+
+-- "Header, data and check byte together leave C4h in the register"
+abbrev pub Residue : ℕ
+Residue = 0xC4
+
+-- The register's most significant bit.
+abbrev pub TopBit : ℕ
+TopBit = 0x80
+
+-- How many bits a byte has.
+abbrev pub ByteBits : ℕ
+ByteBits = 8
+
 -- One bit of the register, most significant bit first: it moves up by one place, and where a one leaves it,
--- x^4 + x^3 + x^2 + 1 (1Dh) is added in.
+-- the polynomial is added in.
 unfoldable pub step : ℕ → ℕ
-step r = cond (ltb r 128) (r * 2) (bitXor ((r - 128) * 2) 0x1D)
+step r = cond (ltb r TopBit) (r * 2) (bitXor ((r - TopBit) * 2) Polynomial)
 
 unfoldable pub steps : ℕ → ℕ → ℕ
 steps zero r = r
 steps (suc n) r = step (steps n r)
 
--- One byte: added in, then eight steps of one bit.
+-- One byte: added in, then a step for each of its bits.
 unfoldable pub feed : ℕ → ℕ → ℕ
-feed r b = steps 8 (bitXor r b)
+feed r b = steps ByteBits (bitXor r b)
 
 unfoldable pub register : ℕ → List ℕ → ℕ
 register r [] = r
@@ -25,7 +45,7 @@ register r (b ∷ s) = register (feed r b) s
 
 -- The register starts all ones, and its complement is sent.
 unfoldable pub checkByte : List ℕ → ℕ
-checkByte s = 255 - register 255 s
+checkByte s = AllOnes - register AllOnes s
 
 -- A run and its check byte.
 unfoldable pub sealed : List ℕ → List ℕ

@@ -1,6 +1,7 @@
 pub mod Bytes
-pub mod Rule
+pub mod Refusal
 pub mod CheckByte
+pub mod Response
 pub mod Header
 pub mod Frame
 pub mod Reader

@@ -1,23 +1,25 @@
 // The header's fields, by shift and mask, and the decision over the sixteen message types.
 use crate::bytes::byte_at;
+use crate::response::ResponseKind;
 ghost use mathlib.Core.Path.{_≡_};
-ghost use Rattle.frame.specs.Header.{messageType, headerSize, responseKind, kindOf, kindNumber, isUnassigned, isChecked};
-ghost use Rattle.frame.specs.Frame.{wrongCount};
-ghost use Rattle.frame.specs.Reader.{answerSize};
+ghost use Rattle.frame.specs.Header.{messageType, headerSize, responseKind, kindAsked};
 
-// What response a message type asks for: document 000, table 5.
-pub enum ResponseKind {
-    Empty,
-    Single,
-    Several,
-    Data,
-    Unassigned,
-}
+// "H = 0: three header bytes (type, target, source)."
+pub const THREE_BYTE_FORM: usize = 3;
+
+// "H = 1: one, with the same bits"
+pub const ONE_BYTE_FORM: usize = 1;
+
+// "bit 4 H"
+const H_PLACE: u8 = 4;
+
+// Bits 3 to 0, KYZZ.
+const TYPE_BITS: u8 = 0x0F;
 
 pub(crate) fn message_type(b: u8) -> u8
     ensures { λ r. ⌜ r ≡ messageType b ⌝ }
 {
-    b & 0x0F
+    b & TYPE_BITS
 }
 
 // How many header bytes H asks for.
@@ -25,7 +27,11 @@ pub fn header_size(run: &[u8]) -> usize
     ensures { λ r. ⌜ r ≡ headerSize (now (run .entry)) ⌝ }
 {
     let b = byte_at(run, 0);
-    if (b >> 4) & 1 == 0 { 3 } else { 1 }
+    if (b >> H_PLACE) & 1 == 0 {
+        THREE_BYTE_FORM
+    } else {
+        ONE_BYTE_FORM
+    }
 }
 
 // All sixteen types, one by one; no other number is a type.
@@ -53,56 +59,9 @@ pub(crate) fn response_kind(t: u8) -> ResponseKind
     }
 }
 
-pub(crate) fn kind_of(run: &[u8]) -> ResponseKind
-    ensures { λ r. ⌜ r ≡ kindOf (now (run .entry)) ⌝ }
+// The response kind that a run's first byte asks for.
+pub(crate) fn kind_asked(run: &[u8]) -> ResponseKind
+    ensures { λ r. ⌜ r ≡ kindAsked (now (run .entry)) ⌝ }
 {
     response_kind(message_type(byte_at(run, 0)))
-}
-
-pub(crate) fn kind_number(kind: ResponseKind) -> u8
-    ensures { λ r. ⌜ r ≡ kindNumber kind ⌝ }
-{
-    match kind {
-        ResponseKind::Empty => 0,
-        ResponseKind::Single => 1,
-        ResponseKind::Several => 2,
-        ResponseKind::Data => 3,
-        ResponseKind::Unassigned => 4,
-    }
-}
-
-pub(crate) fn is_unassigned(kind: ResponseKind) -> bool
-    ensures { λ r. ⌜ r ≡ isUnassigned kind ⌝ }
-{
-    kind_number(kind) == 4
-}
-
-pub(crate) fn is_checked(kind: ResponseKind) -> bool
-    ensures { λ r. ⌜ r ≡ isChecked kind ⌝ }
-{
-    kind_number(kind) == 3
-}
-
-// Whether a response of n bytes without check byte has the wrong count for its kind.
-pub(crate) fn wrong_count(kind: ResponseKind, n: usize) -> bool
-    ensures { λ r. ⌜ r ≡ wrongCount kind n ⌝ }
-{
-    match kind {
-        ResponseKind::Empty => n != 0,
-        ResponseKind::Single => n != 1,
-        ResponseKind::Several => n == 0,
-        ResponseKind::Data => n == 0,
-        ResponseKind::Unassigned => false,
-    }
-}
-
-// A response's bytes without its check byte.
-pub(crate) fn answer_size(kind: ResponseKind, n: usize) -> usize
-    ensures { λ r. ⌜ r ≡ answerSize kind n ⌝ }
-{
-    if is_checked(kind) {
-        if n == 0 { 0 } else { n - 1 }
-    } else {
-        n
-    }
 }

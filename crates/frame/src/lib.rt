@@ -1,6 +1,9 @@
 // Frames of SAE J1850 with consolidated headers: byte runs to parts, and parts to byte runs.
 pub mod bytes;
 pub mod check_byte;
+pub mod frame;
 pub mod header;
 pub mod reader;
+pub mod refusal;
+pub mod response;
 pub mod writer;

@@ -1,20 +1,28 @@
 // Writing a frame: parts without check bytes to two byte runs in lent memory.
 use crate::bytes::put;
 use crate::check_byte::check_byte;
-use crate::header::ResponseKind;
+use crate::frame::MOST_BYTES;
 use crate::header::header_size;
-use crate::header::is_checked;
-use crate::header::is_unassigned;
-use crate::header::kind_of;
-use crate::header::wrong_count;
+use crate::header::kind_asked;
+use crate::refusal::COUNT_WRONG;
+use crate::refusal::HEADER_WRONG;
+use crate::refusal::NO_REFUSAL;
+use crate::refusal::OUTPUT_SHORT;
+use crate::refusal::TOO_LONG;
+use crate::refusal::TYPE_UNASSIGNED;
+use crate::response::ResponseKind;
+use crate::response::is_checked;
+use crate::response::is_unassigned;
+use crate::response::wrong_count;
 ghost use mathlib.Core.Path.{_≡_};
 ghost use mathlib.Core.List.{_∷_, [], _++_};
 ghost use Prim.Native.Nat.{_+_, _-_, _≤_, _<_};
 ghost use lib.ListN.{length, take, drop};
-ghost use Rattle.frame.specs.CheckByte.{checkByte, sealed};
-ghost use Rattle.frame.specs.Frame.{answered};
 ghost use Rattle.frame.specs.Bytes.{placed};
-ghost use Rattle.frame.specs.Writer.{frameOf, frameSize, writeRefusal, writeFrame, outAfter, runs, writingOf};
+ghost use Rattle.frame.specs.CheckByte.{checkByte, sealed};
+ghost use Rattle.frame.specs.Response.{sent};
+ghost use Rattle.frame.specs.Frame.{MostBytes};
+ghost use Rattle.frame.specs.Writer.{frameOf, frameSize, writeRefusal, writeFrame, outWritten, runs, writingOf};
 
 // A refusal's number, or the length of each run.
 pub enum Writing {
@@ -23,47 +31,47 @@ pub enum Writing {
 }
 
 // How many bytes the parts make with their check bytes.
-fn frame_size(header: &[u8], body: &[u8], answer: &[u8]) -> usize
-    requires { ⌜ (length (now header) ≤ 12) × (length (now body) ≤ 12) × (length (now answer) ≤ 12) ⌝ }
-    ensures { λ r. ⌜ r ≡ frameSize (frameOf (now (header .entry)) (now (body .entry)) (now (answer .entry))) ⌝ }
+fn frame_size(header: &[u8], body: &[u8], response: &[u8]) -> usize
+    requires { ⌜ (length (now header) ≤ MostBytes) × (length (now body) ≤ MostBytes) × (length (now response) ≤ MostBytes) ⌝ }
+    ensures { λ r. ⌜ r ≡ frameSize (frameOf (now (header .entry)) (now (body .entry)) (now (response .entry))) ⌝ }
 {
-    let n = header.len() + body.len() + 1 + answer.len();
-    if is_checked(kind_of(header)) {
+    let n = header.len() + body.len() + 1 + response.len();
+    if is_checked(kind_asked(header)) {
         n + 1
     } else {
         n
     }
 }
 
-// The first of the refusals 7, 4, 5, 1, 8 that applies, or 0.
-fn write_refusal(header: &[u8], body: &[u8], answer: &[u8], room: usize) -> u8
-    ensures { λ r. ⌜ r ≡ writeRefusal (now (header .entry)) (now (body .entry)) (now (answer .entry)) room ⌝ }
+// The first of the refusals 7, 4, 5, 1, 8 that applies.
+fn write_refusal(header: &[u8], body: &[u8], response: &[u8], room: usize) -> u8
+    ensures { λ r. ⌜ r ≡ writeRefusal (now (header .entry)) (now (body .entry)) (now (response .entry)) room ⌝ }
 {
     if header.len() != header_size(header) {
-        return 7;
+        return HEADER_WRONG;
     }
-    let kind = kind_of(header);
+    let kind = kind_asked(header);
     if is_unassigned(kind) {
-        return 4;
+        return TYPE_UNASSIGNED;
     }
-    if wrong_count(kind, answer.len()) {
-        return 5;
+    if wrong_count(kind, response.len()) {
+        return COUNT_WRONG;
     }
     // each length by itself first, so that their sum fits
-    if 12 < body.len() {
-        return 1;
+    if MOST_BYTES < body.len() {
+        return TOO_LONG;
     }
-    if 12 < answer.len() {
-        return 1;
+    if MOST_BYTES < response.len() {
+        return TOO_LONG;
     }
-    let size = frame_size(header, body, answer);
-    if 12 < size {
-        return 1;
+    let size = frame_size(header, body, response);
+    if MOST_BYTES < size {
+        return TOO_LONG;
     }
     if room < size {
-        return 8;
+        return OUTPUT_SHORT;
     }
-    0
+    NO_REFUSAL
 }
 
 // Puts the check byte of what stands between two places of out at the second.
@@ -90,31 +98,34 @@ fn put_first(header: &[u8], body: &[u8], out: &mut [u8]) -> usize
 }
 
 // The response from a place on, with a check byte over its data alone if its kind has one.
-fn put_response(kind: ResponseKind, answer: &[u8], out: &mut [u8], at: usize) -> usize
-    requires { ⌜ at + length (answered kind (now answer)) ≤ length (now out) ⌝ }
-    ensures placed { λ r. ⌜ now (out .exit) ≡ placed (now (out .entry)) at (answered kind (now (answer .entry))) ⌝ }
-    ensures size { λ r. ⌜ r ≡ length (answered kind (now (answer .entry))) ⌝ }
+fn put_response(kind: ResponseKind, response: &[u8], out: &mut [u8], at: usize) -> usize
+    requires { ⌜ at + length (sent kind (now response)) ≤ length (now out) ⌝ }
+    ensures placed { λ r. ⌜ now (out .exit) ≡ placed (now (out .entry)) at (sent kind (now (response .entry))) ⌝ }
+    ensures size { λ r. ⌜ r ≡ length (sent kind (now (response .entry))) ⌝ }
 {
-    put(answer, out, at);
-    let a = answer.len();
+    put(response, out, at);
+    let n = response.len();
     if is_checked(kind) {
-        seal(out, at, at + a);
-        a + 1
+        seal(out, at, at + n);
+        n + 1
     } else {
-        a
+        n
     }
 }
 
 // Writes any parts: refused with `out` untouched, or the first run and then the response in `out`.
-pub fn write_frame(header: &[u8], body: &[u8], answer: &[u8], out: &mut [u8]) -> Writing
-    ensures told { λ r. ⌜ writingOf r ≡ runs (writeFrame (now (header .entry)) (now (body .entry)) (now (answer .entry)) (length (now (out .entry)))) ⌝ }
-    ensures left { λ r. ⌜ now (out .exit) ≡ outAfter (writeFrame (now (header .entry)) (now (body .entry)) (now (answer .entry)) (length (now (out .entry)))) (now (out .entry)) ⌝ }
+pub fn write_frame(header: &[u8], body: &[u8], response: &[u8], out: &mut [u8]) -> Writing
+    ensures told { λ r. ⌜ writingOf r ≡ runs (writeFrame (now (header .entry)) (now (body .entry)) (now (response .entry)) (length (now (out .entry)))) ⌝ }
+    ensures left { λ r. ⌜ now (out .exit) ≡ outWritten (writeFrame (now (header .entry)) (now (body .entry)) (now (response .entry)) (length (now (out .entry)))) (now (out .entry)) ⌝ }
 {
-    let refusal = write_refusal(header, body, answer, out.len());
-    if refusal != 0 {
+    let refusal = write_refusal(header, body, response, out.len());
+    if refusal != NO_REFUSAL {
         return Writing::Refused(refusal);
     }
     let first = put_first(header, body, out);
-    let response = put_response(kind_of(header), answer, out, first);
-    Writing::Written { first, response }
+    let behind = put_response(kind_asked(header), response, out, first);
+    Writing::Written {
+        first,
+        response: behind,
+    }
 }

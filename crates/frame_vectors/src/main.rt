@@ -33,7 +33,7 @@ const FILLING: u8 = 0xA5;
 const WORD_DIGITS: usize = 16;
 
 fn length_at(line: &[u8], at: usize) -> usize {
-    hex::byte_at(line, at) as usize
+    hex::byte_from(line, at) as usize
 }
 
 // The sixteen bytes of a run, whatever its length.
@@ -45,16 +45,6 @@ fn run_at(line: &[u8], at: usize) -> [u8; RUN]
     let mut run = [0u8; RUN];
     hex::fill(&line[start..], &mut run);
     run
-}
-
-// The first n bytes of a run, or all of a shorter one.
-fn counted(run: &[u8], n: usize) -> &[u8] {
-    if n < run.len() { &run[..n] } else { run }
-}
-
-// The same of a buffer that is written to.
-fn lent(out: &mut [u8], n: usize) -> &mut [u8] {
-    if n < out.len() { &mut out[..n] } else { out }
 }
 
 fn show_word(word: u64) {
@@ -71,21 +61,21 @@ fn read_case(line: &[u8; LINE]) {
     let first = run_at(line, FIRST);
     let response = run_at(line, SECOND);
     show_word(c_api::rakhubole_j1850_read(
-        counted(&first, length_at(line, FIRST)),
-        counted(&response, length_at(line, SECOND)),
+        hex::counted(&first, length_at(line, FIRST)),
+        hex::counted(&response, length_at(line, SECOND)),
     ));
 }
 
 fn write_case(line: &[u8; LINE]) {
     let header = run_at(line, FIRST);
     let body = run_at(line, SECOND);
-    let answer = run_at(line, THIRD);
+    let response = run_at(line, THIRD);
     let mut out = [FILLING; BUFFER];
     show_word(c_api::rakhubole_j1850_write(
-        counted(&header, length_at(line, FIRST)),
-        counted(&body, length_at(line, SECOND)),
-        counted(&answer, length_at(line, THIRD)),
-        lent(&mut out, length_at(line, ROOM)),
+        hex::counted(&header, length_at(line, FIRST)),
+        hex::counted(&body, length_at(line, SECOND)),
+        hex::counted(&response, length_at(line, THIRD)),
+        hex::lent(&mut out, length_at(line, ROOM)),
     ));
     io::write_all(STDOUT_FILENO, b" ");
     show_buffer(&out);

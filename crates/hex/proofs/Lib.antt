@@ -1,3 +1,2 @@
-pub mod DigitLaws
-pub mod PutLaws
-pub mod TextLaws
+-- The laws stand below the name of the definitions.
+pub mod digits

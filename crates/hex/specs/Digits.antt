@@ -5,27 +5,54 @@ use mathlib.Core.List.{List, [], _∷_, _++_}
 use lib.Dec.{ltb}
 use lib.ListN.{getD, length, take, drop}
 
+-- The characters 0, A and a.
+abbrev pub CharZero : ℕ
+CharZero = 48
+
+abbrev pub CharUpperA : ℕ
+CharUpperA = 65
+
+abbrev pub CharLowerA : ℕ
+CharLowerA = 97
+
+-- Sixteen digits, of which ten are decimal and the others letters; two to a byte.
+abbrev pub Base : ℕ
+Base = 16
+
+abbrev pub Decimals : ℕ
+Decimals = 10
+
+abbrev pub Letters : ℕ
+Letters = Base - Decimals
+
+abbrev pub ByteDigits : ℕ
+ByteDigits = 2
+
 -- The value of a digit; 0 for any other character.
 unfoldable pub digitValue : ℕ → ℕ
-digitValue c = cond (ltb c 48) 0 (cond (ltb c 58) (c - 48) (cond (ltb c 65) 0 (cond (ltb c 71) (c - 55) 0)))
+digitValue c =
+    cond (ltb c CharZero) 0
+    (cond (ltb c (CharZero + Decimals)) (c - CharZero)
+    (cond (ltb c CharUpperA) 0
+    (cond (ltb c (CharUpperA + Letters)) (c - CharUpperA + Decimals) 0)))
 
 -- The byte whose two digits stand at a place of a text; what lies past its end counts as no digit.
-unfoldable pub byteAt : List ℕ → ℕ → ℕ
-byteAt text at = digitValue (getD text at 0) * 16 + digitValue (getD text (at + 1) 0)
+unfoldable pub byteFrom : List ℕ → ℕ → ℕ
+byteFrom text at = digitValue (getD text at 0) * Base + digitValue (getD text (at + 1) 0)
 
 -- As many bytes as asked for, two digits each, from a place on.
 unfoldable pub bytesFrom : List ℕ → ℕ → ℕ → List ℕ
 bytesFrom text zero at = []
-bytesFrom text (suc n) at = byteAt text at ∷ bytesFrom text n (at + 2)
+bytesFrom text (suc n) at = byteFrom text at ∷ bytesFrom text n (at + ByteDigits)
 
 -- The last digit of a number.
 unfoldable pub lastDigit : ℕ → ℕ
-lastDigit n = cond (ltb (n % 16) 10) (48 + n % 16) (87 + n % 16)
+lastDigit n = cond (ltb (n % Base) Decimals) (CharZero + n % Base) (CharLowerA - Decimals + n % Base)
 
 -- The text of bytes, two digits each.
 unfoldable pub textOf : List ℕ → List ℕ
 textOf [] = []
-textOf (b ∷ bs) = lastDigit (b / 16) ∷ lastDigit b ∷ textOf bs
+textOf (b ∷ bs) = lastDigit (b / Base) ∷ lastDigit b ∷ textOf bs
 
 -- How much of that text there is room for.
 abbrev pub textLength : List ℕ → ℕ → ℕ

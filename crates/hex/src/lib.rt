@@ -1,14 +1,18 @@
-// Hexadecimal text to bytes and back, for the programs that run vector files.
+// Hexadecimal text to bytes and back, and the first bytes of a buffer, for the programs that run vector files.
 ghost use mathlib.Core.Path.{_≡_};
 ghost use Prim.Native.Nat.{_/_, _<_};
-ghost use lib.ListN.{getD, length};
-ghost use Rattle.hex.specs.Digits.{digitValue, byteAt, bytesFrom};
-ghost use Rattle.hex.specs.Digits.{lastDigit, textOf, textLength, textOver};
+ghost use lib.ListN.{getD, length, take};
+ghost use Rattle.hex.specs.Digits.{digitValue, byteFrom, bytesFrom};
+ghost use Rattle.hex.specs.Digits.{ByteDigits, lastDigit, textOf, textLength, textOver};
 
+// Sixteen digits, of which ten are decimal and the others letters; two to a byte.
 const BASE: u8 = 16;
 
-// How many digits a byte has.
-const DIGITS: usize = 2;
+const DECIMALS: u8 = 10;
+
+const LETTERS: u8 = BASE - DECIMALS;
+
+const BYTE_DIGITS: usize = 2;
 
 // A digit's value; 0 for any other character.
 pub fn digit_value(c: u8) -> u8
@@ -17,14 +21,14 @@ pub fn digit_value(c: u8) -> u8
     if c < b'0' {
         return 0;
     }
-    if c < b'0' + 10 {
+    if c < b'0' + DECIMALS {
         return c - b'0';
     }
     if c < b'A' {
         return 0;
     }
-    if c < b'A' + 6 {
-        return c - b'A' + 10;
+    if c < b'A' + LETTERS {
+        return c - b'A' + DECIMALS;
     }
     0
 }
@@ -36,8 +40,8 @@ fn char_at(text: &[u8], at: usize) -> u8
 }
 
 // The byte whose two digits stand at a place.
-pub fn byte_at(text: &[u8], at: usize) -> u8
-    ensures { λ r. ⌜ r ≡ byteAt (now (text .entry)) at ⌝ }
+pub fn byte_from(text: &[u8], at: usize) -> u8
+    ensures { λ r. ⌜ r ≡ byteFrom (now (text .entry)) at ⌝ }
 {
     let high = digit_value(char_at(text, at));
     if text.len() <= at {
@@ -52,7 +56,7 @@ pub fn fill(text: &[u8], out: &mut [u8])
 {
     let mut i: usize = 0;
     while i < out.len() {
-        out[i] = byte_at(text, i * DIGITS);
+        out[i] = byte_from(text, i * BYTE_DIGITS);
         i += 1;
     }
 }
@@ -62,20 +66,20 @@ fn last_digit(n: u8) -> u8
     ensures { λ r. ⌜ r ≡ lastDigit n ⌝ }
 {
     let value = n % BASE;
-    if value < 10 {
+    if value < DECIMALS {
         b'0' + value
     } else {
-        b'a' - 10 + value
+        b'a' - DECIMALS + value
     }
 }
 
 // The character at a place of the text of bytes.
 fn text_at(bytes: &[u8], at: usize) -> u8
-    requires { ⌜ at / 2 < length (now bytes) ⌝ }
+    requires { ⌜ at / ByteDigits < length (now bytes) ⌝ }
     ensures { λ r. ⌜ r ≡ getD (textOf (now (bytes .entry))) at 0 ⌝ }
 {
-    let byte = bytes[at / DIGITS];
-    if at % DIGITS == 0 {
+    let byte = bytes[at / BYTE_DIGITS];
+    if at % BYTE_DIGITS == 0 {
         last_digit(byte / BASE)
     } else {
         last_digit(byte)
@@ -88,9 +92,23 @@ pub fn write_text(bytes: &[u8], out: &mut [u8]) -> usize
     ensures lent { λ r. ⌜ now (out .exit) ≡ textOver (now (bytes .entry)) (now (out .entry)) ⌝ }
 {
     let mut n: usize = 0;
-    while n < out.len() && n / DIGITS < bytes.len() {
+    while n < out.len() && n / BYTE_DIGITS < bytes.len() {
         out[n] = text_at(bytes, n);
         n += 1;
     }
     n
+}
+
+// The first n of the bytes, or all where they are fewer.
+pub fn counted(bytes: &[u8], n: usize) -> &[u8]
+    ensures { λ r. ⌜ now r ≡ take n (now (bytes .entry)) ⌝ }
+{
+    if n < bytes.len() { &bytes[..n] } else { bytes }
+}
+
+// The same of a buffer that is written to.
+pub fn lent(out: &mut [u8], n: usize) -> &mut [u8]
+    ensures { λ r. ⌜ now r ≡ take n (now (out .entry)) ⌝ }
+{
+    if n < out.len() { &mut out[..n] } else { out }
 }

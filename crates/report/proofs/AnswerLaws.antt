@@ -8,12 +8,12 @@ use lib.Dec.{eqb, ltb}
 use lib.ListN.{length, getD, length-append}
 use Rattle.frame.specs.Frame.{Parts}
 use Rattle.frame.specs.Bytes.{placed}
-use Rattle.frame.specs.Rule.{Outcome}
+use Rattle.frame.specs.Refusal.{Outcome}
 use Rattle.frame.specs.Header.{headerSize}
 use Rattle.frame.specs.Reader.{readFrame}
-use Rattle.frame.specs.Rule as frame
-use Rattle.frame.proofs.ByteLaws.{cases}
-use Rattle.frame.proofs.HeaderLaws.{three-exactly}
+use Rattle.frame.specs.Refusal as frame
+use Rattle.frame.proofs.bytes.Laws.{cases}
+use Rattle.frame.proofs.header.Laws.{three-exactly}
 use Rattle.catalogue.specs.Supplement.{check, Accepted}
 use Rattle.catalogue.specs.Lookup.{catalogue}
 use Rattle.report.specs.declared.message.Report as struct

@@ -1,6 +1,6 @@
 -- Laws of the bits of an item.
 use mathlib.Core.Path.{_≡_, refl, sym, ap, _∙_}
-use Rattle.frame.proofs.ByteLaws.{below}
+use Rattle.frame.proofs.bytes.Laws.{below}
 use mathlib.Core.Bool.{Bool}
 use lib.Dec.{eqb, eqb→eq}
 use mathlib.Core.List.{List}

@@ -9,9 +9,9 @@ use native.Mathlib.Omega.{arith}
 use lib.Dec.{eqb}
 use lib.ListN.{length, getD, getElem?}
 use Rattle.frame.specs.Frame.{Parts}
-use Rattle.frame.specs.Rule.{accepted}
+use Rattle.frame.specs.Refusal.{accepted}
 use Rattle.frame.specs.Reader.{readFrame}
-use Rattle.frame.proofs.ByteLaws.{cases}
+use Rattle.frame.proofs.bytes.Laws.{cases}
 use Rattle.catalogue.specs.Supplement.{Accepted, Among}
 use Rattle.catalogue.specs.Lookup.{Catalogue, Within, catalogue}
 use Rattle.catalogue.proofs.WithinLaws.{within}

@@ -8,7 +8,7 @@ use Prim.Native.Nat.{ℕ, _+_, _-_, _*_, _≤_}
 use native.Mathlib.Omega.{arith}
 use lib.Dec.{eqb}
 use lib.ListN.{length}
-use Rattle.frame.proofs.ByteLaws.{cases}
+use Rattle.frame.proofs.bytes.Laws.{cases}
 use Rattle.catalogue.specs.declared.rows.PrnRow.{PrnRow}
 use Rattle.catalogue.specs.declared.rows.SlotRow.{SlotRow}
 use Rattle.catalogue.specs.Lookup.{Catalogue}

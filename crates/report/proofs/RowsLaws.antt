@@ -9,7 +9,7 @@ use lib.ListN.{length, take, drop, getD, set, length-append, length-take, length
 use lib.Seq.{length-take-le, take-suc, take-add, getD-take}
 use lib.Ieee.{binary64, nan, toBits}
 use Rattle.frame.specs.Bytes.{placed}
-use Rattle.frame.proofs.PlacedLaws.{stored, stored-before, placed-none, length-placed, joined}
+use Rattle.frame.proofs.bytes.Placed.{stored, stored-before, placed-none, length-placed, joined}
 use Rattle.report.specs.declared.line.Line.{Line}
 use Rattle.report.specs.declared.line.Held.{Held}
 use Rattle.report.specs.declared.line.Line.the-variants.{Number, State, Bits, Text, Digits, Invalid, Short, Unknown, Left, Answered}

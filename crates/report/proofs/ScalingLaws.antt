@@ -18,7 +18,7 @@ use mir.Val.{toZ, ofZ}
 use mir.ValLaws.{toZ-pos, toZ-ofZ}
 use Rattle.catalogue.specs.declared.rows.SlotRow.{SlotRow}
 use Rattle.catalogue.specs.Rows.{inOrder}
-use Rattle.frame.proofs.ByteLaws.{cases}
+use Rattle.frame.proofs.bytes.Laws.{cases}
 use Rattle.report.specs.declared.line.Line.the-variants.{State, Bits, Text, Digits, Invalid, Unknown}
 use Rattle.report.specs.Scaling.{signed, pattern, rawNumber, above, numberLine, withinLimits, digitsPass, printable, decimal, formLine}
 

@@ -7,10 +7,10 @@ use native.Mathlib.Omega.{arith}
 use lib.Dec.{eqb, ltb}
 use lib.ListN.{length, getD}
 use Rattle.frame.specs.Frame.{Parts}
-use Rattle.frame.specs.Rule.{Outcome}
+use Rattle.frame.specs.Refusal.{Outcome}
 use Rattle.frame.specs.Reader.{readFrame}
-use Rattle.frame.specs.Rule as frame
-use Rattle.frame.proofs.ByteLaws.{cases}
+use Rattle.frame.specs.Refusal as frame
+use Rattle.frame.proofs.bytes.Laws.{cases}
 use Rattle.catalogue.specs.Supplement.{check}
 use Rattle.catalogue.specs.Lookup.{Catalogue, catalogue}
 use Rattle.catalogue.proofs.CheckLaws.{place-small}

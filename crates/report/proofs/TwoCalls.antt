@@ -6,7 +6,7 @@ use native.Mathlib.Omega.{arith}
 use lib.ListN.{length, getD}
 use lib.Seq.{getD-append-add}
 use Rattle.frame.specs.Frame.{Parts}
-use Rattle.frame.specs.Rule.{accepted}
+use Rattle.frame.specs.Refusal.{accepted}
 use Rattle.frame.specs.Reader.{readFrame}
 use Rattle.catalogue.specs.Supplement.{Among}
 use Rattle.report.specs.Report.{Message, Report, messageOf, linesOf, verdict}

@@ -6,7 +6,7 @@ use lib.Dec.{eqb, ltb}
 use lib.ListN.{length}
 use Rattle.frame.specs.Frame.{Parts}
 use Rattle.frame.specs.Bytes.{placed}
-use Rattle.frame.specs.Rule.{Outcome}
+use Rattle.frame.specs.Refusal.{Outcome}
 use Rattle.frame.specs.Reader.{readFrame}
 use Rattle.catalogue.specs.Supplement.{check}
 use Rattle.catalogue.specs.Lookup.{catalogue}
@@ -14,7 +14,7 @@ use Rattle.report.specs.declared.answer.Reported.{Reported}
 use Rattle.report.specs.declared.answer.Reported.the-variants.{Refused, Shown}
 use Rattle.report.specs.Report.{messageOf, reportOf}
 use Rattle.report.specs.Rows.{reportBytes}
-use Rattle.frame.specs.Rule as frame
+use Rattle.frame.specs.Refusal as frame
 
 -- "A refusal returns its number, and for 10 to 15 a place", 0 for the others; or what is shown.
 pub data Answer (A : Type 0) : Type 0 where

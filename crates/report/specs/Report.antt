@@ -5,7 +5,8 @@ use mathlib.Core.List.{List, [], _∷_, _++_}
 use mathlib.Core.Option.{Option, none, some}
 use lib.Dec.{eqb}
 use lib.ListN.{length, drop, getD}
-use Rattle.frame.specs.Header.{bitH, kindNumber}
+use Rattle.frame.specs.Header.{bitH}
+use Rattle.frame.specs.Response.{kindNumber}
 use Rattle.frame.specs.Frame.{Parts}
 use Rattle.catalogue.specs.Lookup.{Catalogue}
 use Rattle.report.specs.declared.items.Place.{Place}

@@ -4,7 +4,7 @@ use mathlib.Core.Path.{_≡_}
 use mathlib.Core.List.{List}
 use lib.ListN.{length, getD}
 use Rattle.frame.specs.Frame.{Parts}
-use Rattle.frame.specs.Rule.{accepted}
+use Rattle.frame.specs.Refusal.{accepted}
 use Rattle.frame.specs.Reader.{readFrame}
 use Rattle.report.specs.Report.{messageOf}
 use Rattle.report.specs.Rows.{reportBytes}

@@ -75,7 +75,7 @@ pub fn report(supplement: &[u8], first: &[u8], response: &[u8], out: &mut [u8]) 
             header,
             body,
             kind,
-            answer: _,
+            response: _,
         } => {
             let end = header + body;
             parts_report(supplement, &first[..header], &first[header..end], kind, out)

@@ -4,7 +4,7 @@ use mathlib.Core.Path.{_≡_, refl}
 use mathlib.Core.List.{map}
 use lib.Ieee.{ofInt, div}
 use Rattle.frame.specs.Header.{headerSize}
-use Rattle.frame.specs.Rule.{firstBroken}
+use Rattle.frame.specs.Refusal.{firstBroken}
 use Rattle.frame.specs.Reader.{readRules, readRefusal}
 use Rattle.catalogue.specs.Rows.{inOrder}
 use Rattle.catalogue.specs.Tables.{slotRows}

@@ -55,8 +55,8 @@ fn read_number() -> Number
 {
     let mut text = [0u8; HEAD];
     let got = io::read_full(STDIN_FILENO, &mut text);
-    let high = hex::byte_at(&text, 0) as usize;
-    let low = hex::byte_at(&text, 2) as usize;
+    let high = hex::byte_from(&text, 0) as usize;
+    let low = hex::byte_from(&text, 2) as usize;
     Number {
         there: got == HEAD,
         value: high * 256 + low,

@@ -12,31 +12,25 @@ const MOST: usize = 16400;
 // Four digits and the space.
 const HEAD: usize = 5;
 
+const BYTE_DIGITS: usize = 2;
+
+const BYTE_VALUES: usize = 256;
+
 const WORD_DIGITS: usize = 16;
 
 // The four digits that a line starts with.
 fn length_of(head: &[u8]) -> usize
     ensures { λ r. ⌜ r < 65536 ⌝ }
 {
-    let high = hex::byte_at(head, 0) as usize;
-    let low = hex::byte_at(head, 2) as usize;
-    high * 256 + low
+    let high = hex::byte_from(head, 0) as usize;
+    let low = hex::byte_from(head, BYTE_DIGITS) as usize;
+    high * BYTE_VALUES + low
 }
 
 fn zeros() -> [u8; MOST]
     ensures { λ r. ⌜ 16400 ≡ length r ⌝ }
 {
     [0; MOST]
-}
-
-// The first n of the bytes, or all where they are fewer.
-fn counted(bytes: &[u8], n: usize) -> &[u8] {
-    if n < bytes.len() { &bytes[..n] } else { bytes }
-}
-
-// The same of a buffer that is written to.
-fn lent(out: &mut [u8], n: usize) -> &mut [u8] {
-    if n < out.len() { &mut out[..n] } else { out }
 }
 
 // Reads a line, runs its case and answers whether there may be another.
@@ -46,14 +40,14 @@ fn next_case() -> bool {
         return false;
     }
     let n = length_of(&head);
-    let size = n * 2 + 1;
+    let size = n * BYTE_DIGITS + 1;
     let mut text = io::large_buffer();
-    if MOST < n || io::read_full(STDIN_FILENO, lent(&mut text, size)) < size {
+    if MOST < n || io::read_full(STDIN_FILENO, hex::lent(&mut text, size)) < size {
         return false;
     }
     let mut bytes = zeros();
     hex::fill(&text, &mut bytes);
-    let answer = c_api::rakhubole_supplement_check(counted(&bytes, n));
+    let answer = c_api::rakhubole_supplement_check(hex::counted(&bytes, n));
     io::print_hex(STDOUT_FILENO, answer, WORD_DIGITS);
     io::write_all(STDOUT_FILENO, b"\n");
     true

@@ -2,11 +2,13 @@
 use mathlib.Core.Path.{_≡_, sym, ap, _∙_}
 use Prim.Native.Nat.{_≤_}
 use native.Mathlib.Omega.{arith}
-use Rattle.frame.specs.Rule.{accepted}
-use Rattle.frame.specs.Reader.{readFrame, Sizes, sizes, readingOf}
-use Rattle.frame.proofs.ReaderLaws.{handed}
-use Rattle.c_api.specs.Words.{readWord}
 use borrow.Author.Needs.{needs}
+use Rattle.frame.specs.Frame.{MostBytes}
+use Rattle.frame.specs.Refusal.{accepted}
+use Rattle.frame.specs.Reader.{readFrame, Sizes, sizes, readingOf}
+use Rattle.frame.specs.Response.{KindData}
+use Rattle.frame.proofs.reader.Laws.{sizes-handed}
+use Rattle.c_api.specs.Words.{readWord}
 use Rattle.c_api.proofs.rakhubole_j1850_read.Statement.{statement}
 use Rattle.c_api.proofs.rakhubole_j1850_read.Tie as tie
 
@@ -19,17 +21,23 @@ enum-known-reading c = search needs
 cast-result : tie.Need-cast-result
 cast-result c = search needs
 
-given : tie.After-known-told2 → Sizes
-given c = record { header = c .before .reading2 .given .0 .0; body = c .before .reading2 .given .0 .1 .0; kind = c .before .reading2 .given .0 .1 .1 .0; answer = c .before .reading2 .given .0 .1 .1 .1 .0 }
+-- What the reader handed over, each field within its byte.
+module _ (c : tie.After-known-told2) where
+  abbrev given : Sizes
+  given =
+      let g = c .before .reading2 .given .0 in
+      record { header = g .0; body = g .1 .0; kind = g .1 .1 .0; response = g .1 .1 .1 .0 }
 
-told : (c : tie.After-known-told2) → sizes (readFrame (c .before .before .before .before .before .before .args .first .now) (c .before .before .before .before .before .before .args .response .now)) ≡ accepted (given c)
-unfolding given
-told c = sym (c .before .before .before .read-frame .ensures) ∙ ap readingOf (c .before .reading2 .given .1)
+  abbrev start : tie.Start
+  start = c .before .before .before .before .before .before
 
--- each field fits its byte
-small : (c : tie.After-known-told2) → (c .before .reading2 .given .0 .0 ≤ 12) × (c .before .reading2 .given .0 .1 .0 ≤ 12) × (c .before .reading2 .given .0 .1 .1 .0 ≤ 3) × (c .before .reading2 .given .0 .1 .1 .1 .0 ≤ 12)
-unfolding given
-small c = let h = handed (c .before .before .before .before .before .before .args .first .now) (c .before .before .before .before .before .before .args .response .now) (given c) (told c) in omega (arith, h .header, h .body, h .kind, h .answer, h .twelve)
+  told : sizes (readFrame (start .args .first .now) (start .args .response .now)) ≡ accepted given
+  told = sym (c .before .before .before .read-frame .ensures) ∙ ap readingOf (c .before .reading2 .given .1)
+
+  small : (given .header ≤ MostBytes) × (given .body ≤ MostBytes) × (given .kind ≤ KindData) × (given .response ≤ MostBytes)
+  small =
+      let h = sizes-handed (start .args .first .now) (start .args .response .now) given told in
+      omega (arith, h .header, h .body, h .kind, h .most, h .within)
 
 enum-known-reading-2 : tie.Need-enum-known-reading-2
 enum-known-reading-2 c = search needs
@@ -62,7 +70,6 @@ returns : tie.Need-returns
 returns c = ap readWord (ap readingOf (sym (c .before .reading .given .1)) ∙ c .before .before .before .read-frame .ensures)
 
 returns-2 : tie.Need-returns-2
-unfolding given
 returns-2 c = ap readWord (sym (told c))
 
 pub rakhubole-j1850-read-spec : {M : Type 1} → statement M

@@ -1,12 +1,13 @@
 -- A place is at most 16,384 and the rows are at most 150 bytes long, so that the answer holds either above the refusal.
 use mathlib.Core.Path.{_≡_, sym, ap, _∙_}
-use Prim.Native.Nat.{_≤_}
+use mathlib.Core.List.{List}
+use Prim.Native.Nat.{ℕ, _≤_}
 use native.Mathlib.Omega.{arith}
+use borrow.Author.Needs.{needs}
 use lib.ListN.{length}
-use Rattle.report.specs.Answer.{refused, shown, reportAnswer, sized, reportedOf}
+use Rattle.report.specs.Answer.{Answer, refused, shown, reportAnswer, sized, reportedOf}
 use Rattle.report.proofs.SizeLaws.{place-within, size-within}
 use Rattle.c_api.specs.Words.{reportWord}
-use borrow.Author.Needs.{needs}
 use Rattle.c_api.proofs.rakhubole_j1850_report.Statement.{statement}
 use Rattle.c_api.proofs.rakhubole_j1850_report.Tie as tie
 
@@ -19,11 +20,30 @@ enum-known-reported c = search needs
 cast-result : tie.Need-cast-result
 cast-result c = search needs
 
-told-refused : (c : tie.After-known-told) → refused (c .before .reported .given .0 .0) (c .before .reported .given .0 .1 .0) ≡ sized (reportAnswer (c .before .before .before .before .before .before .before .before .before .before .before .args .supplement .now) (c .before .before .before .before .before .before .before .before .before .before .before .args .first .now) (c .before .before .before .before .before .before .before .before .before .before .before .args .response .now) (length (c .before .before .before .before .before .before .before .before .before .before .before .args .out .now)))
-told-refused c = ap reportedOf (sym (c .before .reported .given .1)) ∙ c .before .before .before .before .before .report .ensures .0
+-- What the definitions answer for what was lent.
+abbrev answerAt : tie.Start → Answer (List ℕ)
+answerAt s = let a = s .args in reportAnswer (a .supplement .now) (a .first .now) (a .response .now) (length (a .out .now))
 
-place-fits : (c : tie.After-known-told) → c .before .reported .given .0 .1 .0 ≤ 16384
-place-fits c = place-within (c .before .before .before .before .before .before .before .before .before .before .before .args .supplement .now) (c .before .before .before .before .before .before .before .before .before .before .before .args .first .now) (c .before .before .before .before .before .before .before .before .before .before .before .args .response .now) (length (c .before .before .before .before .before .before .before .before .before .before .before .args .out .now)) _ _ (told-refused c)
+-- A refusal.
+module _ (c : tie.After-known-told) where
+  abbrev start : tie.Start
+  start = c .before .before .before .before .before .before .before .before .before .before .before
+
+  told-refused : (let g = c .before .reported .given .0 in refused (g .0) (g .1 .0)) ≡ sized (answerAt start)
+  told-refused = ap reportedOf (sym (c .before .reported .given .1)) ∙ c .before .before .before .before .before .report .ensures .0
+
+  place-fits : c .before .reported .given .0 .1 .0 ≤ 16384
+  place-fits =
+      let a = start .args in
+      place-within (a .supplement .now) (a .first .now) (a .response .now) (length (a .out .now)) _ _ told-refused
+
+-- Rows.
+module _ (c : tie.After-known-told2) where
+  abbrev start2 : tie.Start
+  start2 = c .before .before .before .before .before .before .before .before .before .before .before
+
+  told-shown : shown (c .before .reported2 .given .0 .0) ≡ sized (answerAt start2)
+  told-shown = ap reportedOf (sym (c .before .reported2 .given .1)) ∙ c .before .before .before .before .before .report .ensures .0
 
 mul-result : tie.Need-mul-result
 mul-result c = omega (arith, place-fits c)
@@ -34,11 +54,11 @@ add-result c = omega (arith, place-fits c)
 enum-known-reported-2 : tie.Need-enum-known-reported-2
 enum-known-reported-2 c = search needs
 
-told-shown : (c : tie.After-known-told2) → shown (c .before .reported2 .given .0 .0) ≡ sized (reportAnswer (c .before .before .before .before .before .before .before .before .before .before .before .args .supplement .now) (c .before .before .before .before .before .before .before .before .before .before .before .args .first .now) (c .before .before .before .before .before .before .before .before .before .before .before .args .response .now) (length (c .before .before .before .before .before .before .before .before .before .before .before .args .out .now)))
-told-shown c = ap reportedOf (sym (c .before .reported2 .given .1)) ∙ c .before .before .before .before .before .report .ensures .0
-
 mul-result-2 : tie.Need-mul-result-2
-mul-result-2 c = omega (arith, size-within (c .before .before .before .before .before .before .before .before .before .before .before .args .supplement .now) (c .before .before .before .before .before .before .before .before .before .before .before .args .first .now) (c .before .before .before .before .before .before .before .before .before .before .before .args .response .now) (length (c .before .before .before .before .before .before .before .before .before .before .before .args .out .now)) (c .before .reported2 .given .0 .0) (told-shown c))
+mul-result-2 c =
+    let a = start2 c .args in
+    let size = c .before .reported2 .given .0 .0 in
+    omega (arith, size-within (a .supplement .now) (a .first .now) (a .response .now) (length (a .out .now)) size (told-shown c))
 
 same-length : tie.Need-same-length
 same-length c = search needs

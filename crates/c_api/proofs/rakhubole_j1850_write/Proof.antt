@@ -2,12 +2,13 @@
 use mathlib.Core.Path.{_≡_, sym, ap, _∙_}
 use Prim.Native.Nat.{_≤_}
 use native.Mathlib.Omega.{arith}
-use lib.ListN.{length}
-use Rattle.frame.specs.Rule.{accepted}
-use Rattle.frame.specs.Writer.{writeFrame, runs, writingOf}
-use Rattle.frame.proofs.WriterLaws.{handed}
-use Rattle.c_api.specs.Words.{writeWord}
 use borrow.Author.Needs.{needs}
+use lib.ListN.{length}
+use Rattle.frame.specs.Frame.{Frame, MostBytes}
+use Rattle.frame.specs.Refusal.{Outcome, accepted}
+use Rattle.frame.specs.Writer.{writeFrame, Runs, runs, writingOf}
+use Rattle.frame.proofs.writer.Laws.{runs-handed}
+use Rattle.c_api.specs.Words.{writeWord}
 use Rattle.c_api.proofs.rakhubole_j1850_write.Statement.{statement}
 use Rattle.c_api.proofs.rakhubole_j1850_write.Tie as tie
 
@@ -20,12 +21,24 @@ enum-known-writing c = search needs
 cast-result : tie.Need-cast-result
 cast-result c = search needs
 
-told : (c : tie.After-known-told2) → runs (writeFrame (c .before .before .before .before .before .before .before .before .before .before .before .args .header .now) (c .before .before .before .before .before .before .before .before .before .before .before .args .body .now) (c .before .before .before .before .before .before .before .before .before .before .before .args .answer .now) (length (c .before .before .before .before .before .before .before .before .before .before .before .args .out .now))) ≡ accepted (record { first = c .before .writing2 .given .0 .0; response = c .before .writing2 .given .0 .1 .0 })
-told c = sym (c .before .before .before .before .before .write-frame .ensures .0) ∙ ap writingOf (c .before .writing2 .given .1)
+-- What the writer handed over, each length within its byte.
+module _ (c : tie.After-known-told2) where
+  abbrev given : Runs
+  given = let g = c .before .writing2 .given .0 in record { first = g .0; response = g .1 .0 }
 
--- each length fits its byte
-small : (c : tie.After-known-told2) → (c .before .writing2 .given .0 .0 ≤ 12) × (c .before .writing2 .given .0 .1 .0 ≤ 12)
-small c = omega (arith, handed (c .before .before .before .before .before .before .before .before .before .before .before .args .header .now) (c .before .before .before .before .before .before .before .before .before .before .before .args .body .now) (c .before .before .before .before .before .before .before .before .before .before .before .args .answer .now) (length (c .before .before .before .before .before .before .before .before .before .before .before .args .out .now)) (record { first = c .before .writing2 .given .0 .0; response = c .before .writing2 .given .0 .1 .0 }) (told c))
+  abbrev start : tie.Start
+  start = c .before .before .before .before .before .before .before .before .before .before .before
+
+  abbrev written : Outcome Frame
+  written = let a = start .args in writeFrame (a .header .now) (a .body .now) (a .response .now) (length (a .out .now))
+
+  told : runs written ≡ accepted given
+  told = sym (c .before .before .before .before .before .write-frame .ensures .0) ∙ ap writingOf (c .before .writing2 .given .1)
+
+  small : (given .first ≤ MostBytes) × (given .response ≤ MostBytes)
+  small =
+      let a = start .args in
+      omega (arith, runs-handed (a .header .now) (a .body .now) (a .response .now) (length (a .out .now)) given told)
 
 enum-known-writing-2 : tie.Need-enum-known-writing-2
 enum-known-writing-2 c = search needs
@@ -44,7 +57,8 @@ same-length c = search needs
 
 returns : tie.Need-returns
 returns c =
-    (ap writeWord (ap writingOf (sym (c .before .writing .given .1)) ∙ c .before .before .before .before .before .write-frame .ensures .0), c .before .before .before .before .before .write-frame .ensures .1)
+    let written = c .before .before .before .before .before .write-frame .ensures in
+    (ap writeWord (ap writingOf (sym (c .before .writing .given .1)) ∙ written .0), written .1)
 
 same-length-2 : tie.Need-same-length-2
 same-length-2 c = search needs

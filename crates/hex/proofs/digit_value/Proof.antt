@@ -1,7 +1,7 @@
 -- Each branch is its range.
 use mathlib.Core.Path.{sym}
 use native.Mathlib.Omega.{arith}
-use Rattle.hex.proofs.DigitLaws.{below-digits, digits, between, letters, above-letters}
+use Rattle.hex.proofs.digits.Laws.{below-digits, digits, between, letters, above-letters}
 use borrow.Author.Needs.{needs}
 use Rattle.hex.proofs.digit_value.Statement.{statement}
 use Rattle.hex.proofs.digit_value.Tie as tie

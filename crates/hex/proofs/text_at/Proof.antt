@@ -4,7 +4,7 @@ use Prim.Native.Nat.{ℕ, _+_, _*_, _/_}
 use native.Mathlib.Omega.{arith}
 use lib.ListN.{getD}
 use Rattle.hex.specs.Digits.{textOf}
-use Rattle.hex.proofs.TextLaws.{high-digit, low-digit}
+use Rattle.hex.proofs.digits.Text.{high-digit, low-digit}
 use borrow.Author.Needs.{needs}
 use Rattle.hex.proofs.text_at.Statement.{statement}
 use Rattle.hex.proofs.text_at.Tie as tie
@@ -20,18 +20,20 @@ last-digit-requires-2 c κs = search needs
 
 returns : tie.Need-returns
 returns c =
-    let a = c .before .before .before .before .args in
+    let s = c .before .before .before .before in
+    let a = s .args in
     let e : 2 * (a .at / 2) ≡ a .at = omega arith in
     c .last-digit .ensures
-    ∙ sym (high-digit (a .bytes .now) (a .at / 2) (c .before .before .before .before .pre))
+    ∙ sym (high-digit (a .bytes .now) (a .at / 2) (s .pre))
     ∙ ap (λ (i : ℕ). getD (textOf (a .bytes .now)) i 0) e
 
 returns-2 : tie.Need-returns-2
 returns-2 c =
-    let a = c .before .before .before .before .args in
+    let s = c .before .before .before .before in
+    let a = s .args in
     let e : 2 * (a .at / 2) + 1 ≡ a .at = omega arith in
     c .last-digit2 .ensures
-    ∙ sym (low-digit (a .bytes .now) (a .at / 2) (c .before .before .before .before .pre))
+    ∙ sym (low-digit (a .bytes .now) (a .at / 2) (s .pre))
     ∙ ap (λ (i : ℕ). getD (textOf (a .bytes .now)) i 0) e
 
 pub text-at-spec : {M : Type 1} → statement M

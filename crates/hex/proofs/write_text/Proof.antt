@@ -5,13 +5,13 @@ use native.Mathlib.Omega.{arith}
 use borrow.Author.Tests.{ltb-true, ltb-false}
 use lib.ListN.{length}
 use Rattle.hex.specs.Digits.{textOf, textLength, textOver}
-use Rattle.hex.proofs.TextLaws.{length-text}
-use Rattle.hex.proofs.PutLaws.{Put, kept, one-more, ended}
+use Rattle.hex.proofs.digits.Text.{length-text}
+use Rattle.hex.proofs.digits.Put.{PutSoFar, length-kept, one-put, ended}
 use Rattle.hex.proofs.write_text.Statement.{statement}
 use Rattle.hex.proofs.write_text.Tie as tie
 
 abbrev Inv-loop : tie.InvT-loop
-Inv-loop bytes out₀ n₀ out n = Put (textOf bytes) out₀ out n
+Inv-loop bytes out₀ n₀ out n = PutSoFar (textOf bytes) out₀ out n
 
 abbrev μ-loop : tie.MeasureT-loop
 μ-loop bytes out₀ n₀ out n = length out₀ - n
@@ -29,16 +29,17 @@ add-n : tie.Need-add-n Inv-loop μ-loop
 add-n c = omega arith
 
 loop-less : tie.Need-loop-less Inv-loop μ-loop
-loop-less c = omega (arith, kept (c .before .before .before .loop .inv))
+loop-less c = omega (arith, length-kept (c .before .before .before .loop .inv))
 
 loop-again : tie.Need-loop-again Inv-loop μ-loop
 loop-again c =
+    let loop = c .before .before .before .loop in
     let bytes = c .before .before .before .before .before .before .args .bytes .now in
-    let more : c .before .before .before .loop .n / 2 < length bytes = ltb-true _ _ (c .before .if1 .taken) in
-    one-more (c .before .before .before .loop .inv) _ (omega arith) (omega (arith, length-text bytes)) (c .text-at .ensures)
+    let more : loop .n / 2 < length bytes = ltb-true _ _ (c .before .if1 .taken) in
+    one-put (loop .inv) _ (omega arith) (omega (arith, length-text bytes)) (c .text-at .ensures)
 
 same-length : tie.Need-same-length Inv-loop μ-loop
-same-length c = kept (c .before .before .loop .inv)
+same-length c = length-kept (c .before .before .loop .inv)
 
 returns : tie.Need-returns Inv-loop μ-loop
 unfolding textOver
@@ -51,14 +52,14 @@ returns c =
     (all, ended inv all)
 
 same-length-2 : tie.Need-same-length-2 Inv-loop μ-loop
-same-length-2 c = kept (c .before .loop .inv)
+same-length-2 c = length-kept (c .before .loop .inv)
 
 returns-2 : tie.Need-returns-2 Inv-loop μ-loop
 unfolding textOver
 returns-2 c =
     let inv = c .before .loop .inv in
     let a = c .before .before .before .before .args in
-    let all : c .before .loop .n ≡ textLength (a .bytes .now) (length (a .out .now)) = omega (arith, kept inv) in
+    let all : c .before .loop .n ≡ textLength (a .bytes .now) (length (a .out .now)) = omega (arith, length-kept inv) in
     (all, ended inv all)
 
 pub write-text-spec : {M : Type 1} → statement M

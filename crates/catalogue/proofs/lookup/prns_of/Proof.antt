@@ -6,7 +6,7 @@ use borrow.Author.Tests.{eqb-true, eqb-false}
 use lib.Dec.{eqb}
 use lib.ListN.{length, getD, set, length-set}
 use lib.Seq.{getD-set-same, getD-set-other, ext-getD}
-use Rattle.frame.proofs.ByteLaws.{cases}
+use Rattle.frame.proofs.bytes.Laws.{cases}
 use Rattle.catalogue.specs.Record.{two, numbers}
 use Rattle.catalogue.proofs.RecordLaws.{length-numbers, numbers-at}
 use Rattle.catalogue.proofs.lookup.prns_of.Statement.{statement}

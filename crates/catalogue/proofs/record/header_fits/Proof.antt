@@ -2,7 +2,7 @@
 use mathlib.Core.Path.{sym, _∙_}
 use borrow.Author.Tests.{eq-eqb, ne-eqb}
 use Rattle.frame.specs.Header.{bitH}
-use Rattle.frame.proofs.HeaderLaws.{masked-h}
+use Rattle.frame.proofs.header.Laws.{masked-h}
 use Rattle.catalogue.specs.Record.{headerFits}
 use Rattle.catalogue.proofs.record.header_fits.Statement.{statement}
 use Rattle.catalogue.proofs.record.header_fits.Tie as tie

@@ -4,8 +4,8 @@ use Prim.Native.Nat.{ℕ}
 use native.Mathlib.Omega.{arith}
 use borrow.Author.Tests.{le-leb, lt-leb, lt-ltb, le-ltb}
 use lib.ListN.{drop}
-use Rattle.frame.specs.Rule.{firstBroken}
-use Rattle.frame.proofs.RuleLaws.{broken, kept, last-kept}
+use Rattle.frame.specs.Refusal.{firstBroken}
+use Rattle.frame.proofs.refusal.Laws.{broken, kept, last-kept}
 use Rattle.catalogue.specs.Record.{recordSize, kindOf, faultRules, fault}
 use Rattle.catalogue.specs.Supplement.{recordsOf}
 use borrow.Author.Needs.{needs}

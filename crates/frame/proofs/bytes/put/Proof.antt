@@ -5,7 +5,7 @@ use native.Mathlib.Omega.{arith}
 use native.Mathlib.Numerals.{add-one}
 use lib.ListN.{length, length-set}
 use lib.Seq.{paste, paste-zero, paste-suc}
-use Rattle.frame.proofs.PlacedLaws.{pasted}
+use Rattle.frame.proofs.bytes.Placed.{pasted}
 use Rattle.frame.proofs.bytes.put.Statement.{statement}
 use Rattle.frame.proofs.bytes.put.Tie as tie
 
@@ -34,22 +34,22 @@ loop-less : tie.Need-loop-less Inv-loop μ-loop
 loop-less c = omega arith
 
 loop-again : tie.Need-loop-again Inv-loop μ-loop
-loop-again c = (
-  rw (c .before .before .loop .inv .0, add-one)
-      (paste-suc (c .before .before .before .args .out .now) (c .before .before .before .args .at) (c .before .before .before .args .run .now) (c .before .before .loop .i) 0 (omega arith) (c .before .loop-test .taken)),
-  omega arith,
-  simp length-set (omega arith),
-)
+loop-again c =
+    let a = c .before .before .before .args in
+    let loop = c .before .before .loop in
+    let next = paste-suc (a .out .now) (a .at) (a .run .now) (loop .i) 0 (omega arith) (c .before .loop-test .taken) in
+    (rw (loop .inv .0, add-one) next, omega arith, simp length-set (omega arith))
 
 same-length : tie.Need-same-length Inv-loop μ-loop
 same-length c = c .before .loop .inv .2
 
 returns : tie.Need-returns Inv-loop μ-loop
 returns c =
-    let all : c .before .loop .i ≡ length (c .before .before .args .run .now) = omega arith in
+    let a = c .before .before .args in
+    let all : c .before .loop .i ≡ length (a .run .now) = omega arith in
     c .before .loop .inv .0
-    ∙ ap (paste (c .before .before .args .out .now) (c .before .before .args .at) (c .before .before .args .run .now)) all
-    ∙ pasted (c .before .before .args .out .now) (c .before .before .args .at) (c .before .before .args .run .now)
+    ∙ ap (paste (a .out .now) (a .at) (a .run .now)) all
+    ∙ pasted (a .out .now) (a .at) (a .run .now)
 
 pub put-spec : {M : Type 1} → statement M
 put-spec =

@@ -3,13 +3,13 @@ use mathlib.Core.Path.{_≡_, refl, sym, ap, _∙_}
 use Prim.Native.Nat.{ℕ, _≤_, _<_, _-_}
 use native.Mathlib.Omega.{arith}
 use lib.ListN.{length, drop}
-use Rattle.frame.specs.CheckByte.{register, checkByte}
-use Rattle.frame.proofs.CheckByteLaws.{register-next, register-end}
+use Rattle.frame.specs.CheckByte.{AllOnes, register, checkByte}
+use Rattle.frame.proofs.check_byte.Laws.{register-next, register-end}
 use Rattle.frame.proofs.check_byte.check_byte.Statement.{statement}
 use Rattle.frame.proofs.check_byte.check_byte.Tie as tie
 
 abbrev Inv-loop : tie.InvT-loop
-Inv-loop run r₀ i₀ r i = (register 255 run ≡ register r (drop i run)) × (i ≤ length run) × (r < 256)
+Inv-loop run r₀ i₀ r i = (register AllOnes run ≡ register r (drop i run)) × (i ≤ length run) × (r < 256)
 
 abbrev μ-loop : tie.MeasureT-loop
 μ-loop run r₀ i₀ r i = length run - i
@@ -30,13 +30,10 @@ loop-less : tie.Need-loop-less Inv-loop μ-loop
 loop-less c = omega arith
 
 loop-again : tie.Need-loop-again Inv-loop μ-loop
-loop-again c = (
-  rw (c .feed .ensures)
-      (c .before .before .before .loop .inv .0
-      ∙ register-next _ _ (c .before .before .before .loop .r) (c .before .before .loop-test .taken)),
-  omega arith,
-  omega arith,
-)
+loop-again c =
+    let loop = c .before .before .before .loop in
+    let next = register-next _ _ (loop .r) (c .before .before .loop-test .taken) in
+    (rw (c .feed .ensures) (loop .inv .0 ∙ next), omega arith, omega arith)
 
 sub-result : tie.Need-sub-result Inv-loop μ-loop
 sub-result c = omega arith
@@ -44,7 +41,7 @@ sub-result c = omega arith
 returns : tie.Need-returns Inv-loop μ-loop
 unfolding checkByte
 returns c =
-    ap (λ (r : ℕ). 255 - r)
+    ap (λ (r : ℕ). AllOnes - r)
     (sym (c .before .loop .inv .0 ∙ register-end _ _ (c .before .loop .r) (c .loop-test .left)))
 
 pub check-byte-spec : {M : Type 1} → statement M

@@ -4,15 +4,15 @@ use lib.Bits.{bitXor}
 use Prim.Native.Nat.{ℕ, _≤_, _-_}
 use native.Mathlib.Omega.{arith}
 use native.Mathlib.Numerals.{add-one}
-use Rattle.frame.specs.CheckByte.{step, steps, feed}
+use Rattle.frame.specs.CheckByte.{ByteBits, step, steps, feed}
 use Rattle.frame.proofs.check_byte.feed.Statement.{statement}
 use Rattle.frame.proofs.check_byte.feed.Tie as tie
 
 abbrev Inv-loop : tie.InvT-loop
-Inv-loop r b s₀ counter₀ s counter = (s ≡ steps counter s₀) × (counter ≤ 8)
+Inv-loop r b s₀ counter₀ s counter = (s ≡ steps counter s₀) × (counter ≤ ByteBits)
 
 abbrev μ-loop : tie.MeasureT-loop
-μ-loop r b s₀ counter₀ s counter = 8 - counter
+μ-loop r b s₀ counter₀ s counter = ByteBits - counter
 
 loop-holds : tie.Need-loop-holds Inv-loop μ-loop
 unfolding steps
@@ -34,8 +34,8 @@ loop-again c = (rw add-one (c .step .ensures ∙ ap step (c .before .before .loo
 returns : tie.Need-returns Inv-loop μ-loop
 unfolding feed
 returns c =
-    c .before .loop .inv .0
-    ∙ ap (λ (n : ℕ). steps n (bitXor (c .before .before .args .r) (c .before .before .args .b))) (omega arith)
+    let a = c .before .before .args in
+    c .before .loop .inv .0 ∙ ap (λ (n : ℕ). steps n (bitXor (a .r) (a .b))) (omega arith)
 
 pub feed-spec : {M : Type 1} → statement M
 feed-spec =

@@ -1,5 +1,5 @@
 -- The two branches are the two cases of the step's law.
-use Rattle.frame.proofs.CheckByteLaws.{step-zero, step-one}
+use Rattle.frame.proofs.check_byte.Laws.{step-zero, step-one}
 use Rattle.frame.proofs.check_byte.step.Statement.{statement}
 use Rattle.frame.proofs.check_byte.step.Tie as tie
 

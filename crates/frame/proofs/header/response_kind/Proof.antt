@@ -5,7 +5,7 @@ use Prim.Native.Nat.{ℕ, zero, suc, _≤_, zero-le}
 use native.Mathlib.Nat.{eq-or-lt-of-le}
 use lib.ListN.{List·getD-eq-default}
 use Rattle.frame.specs.Header.{responseKind, typeTable}
-use Rattle.frame.specs.declared.header.ResponseKind.the-variants.{Unassigned}
+use Rattle.frame.specs.declared.response.ResponseKind.the-variants.{Unassigned}
 use Rattle.frame.proofs.header.response_kind.Statement.{statement}
 use Rattle.frame.proofs.header.response_kind.Tie as tie
 
@@ -89,4 +89,21 @@ returns-17 c = sym (List·getD-eq-default typeTable Unassigned (past 16 (c .befo
 pub response-kind-spec : {M : Type 1} → statement M
 response-kind-spec =
     tie.close
-    (tie.spec returns returns-2 returns-3 returns-4 returns-5 returns-6 returns-7 returns-8 returns-9 returns-10 returns-11 returns-12 returns-13 returns-14 returns-15 returns-16 returns-17)
+    (tie.spec
+    returns
+    returns-2
+    returns-3
+    returns-4
+    returns-5
+    returns-6
+    returns-7
+    returns-8
+    returns-9
+    returns-10
+    returns-11
+    returns-12
+    returns-13
+    returns-14
+    returns-15
+    returns-16
+    returns-17)

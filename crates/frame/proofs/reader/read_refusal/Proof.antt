@@ -1,48 +1,71 @@
 -- Each test is its rule; a test that is passed leaves the rules after it.
 use mathlib.Core.Path.{_≡_, sym, ap, _∙_}
+use mathlib.Core.Bool.{Bool}
+use Prim.Native.Nat.{ℕ, _+_}
 use native.Mathlib.Omega.{arith}
 use borrow.Author.Needs.{needs}
 use borrow.Author.Tests.{lt-ltb, le-ltb}
 use lib.ListN.{length, drop}
 use Rattle.frame.specs.CheckByte.{isSealed}
-use Rattle.frame.specs.Header.{kindOf, isUnassigned, isChecked}
-use Rattle.frame.specs.declared.header.ResponseKind.{ResponseKind}
-use Rattle.frame.specs.Frame.{wrongCount}
-use Rattle.frame.specs.Rule.{firstBroken}
-use Rattle.frame.specs.Reader.{readRules, readRefusal, answerSize}
-use Rattle.frame.proofs.HeaderLaws.{header-range}
-use Rattle.frame.proofs.RuleLaws.{broken, kept, last-kept}
+use Rattle.frame.specs.declared.response.ResponseKind.{ResponseKind}
+use Rattle.frame.specs.Response.{isUnassigned, isChecked, wrongCount, responseSize}
+use Rattle.frame.specs.Header.{kindAsked}
+use Rattle.frame.specs.Frame.{MostBytes}
+use Rattle.frame.specs.Refusal.{firstBroken}
+use Rattle.frame.specs.Reader.{readRules, readRefusal}
+use Rattle.frame.proofs.header.Laws.{header-range}
+use Rattle.frame.proofs.refusal.Laws.{broken, kept, last-kept}
 use Rattle.frame.proofs.reader.read_refusal.Statement.{statement}
 use Rattle.frame.proofs.reader.read_refusal.Tie as tie
+
+-- The first n rules are kept.
+abbrev Passed : ℕ → tie.Start → Type 0
+Passed n s =
+    let a = s .args in
+    readRefusal (a .first .now) (a .response .now) ≡ firstBroken (drop n (readRules (a .first .now) (a .response .now)))
+
+-- How many bytes both runs have.
+abbrev total : tie.Start → ℕ
+total s = length (s .args .first .now) + length (s .args .response .now)
+
+-- Where the function started, seen from each test that was passed.
+abbrev start1 : tie.Else1 → tie.Start
+start1 c = c .before .before .before
+
+abbrev start2 : tie.Else2 → tie.Start
+start2 c = start1 (c .before .before)
+
+abbrev start3 : tie.Else3 → tie.Start
+start3 c = start2 (c .before .before)
+
+abbrev start4 : tie.Else4 → tie.Start
+start4 c = start3 (c .before .before .before)
+
+abbrev start5 : tie.Else5 → tie.Start
+start5 c = start4 (c .before .before .before)
 
 add-if1 : tie.Need-add-if1
 add-if1 c = search needs
 
 returns : tie.Need-returns
 unfolding readRefusal readRules
-returns c = sym (broken _ _ (lt-ltb _ _ (c .if1 .taken)))
+returns c = sym (broken _ _ (lt-ltb MostBytes (total (c .before .before .before)) (c .if1 .taken)))
 
-past1 :
-    (c : tie.Else1)
-    → readRefusal (c .before .before .before .args .first .now) (c .before .before .before .args .response .now)
-    ≡ firstBroken (drop 1 (readRules (c .before .before .before .args .first .now) (c .before .before .before .args .response .now)))
+past1 : (c : tie.Else1) → Passed 1 (start1 c)
 unfolding readRefusal readRules
-past1 c = kept _ _ (le-ltb _ _ (c .if1 .left))
+past1 c = kept _ _ (le-ltb MostBytes (total (start1 c)) (c .if1 .left))
 
 header-size-requires : tie.Need-header-size-requires
 header-size-requires c κs = search needs
 
 add-if2 : tie.Need-add-if2
-add-if2 c = omega (arith, c .header-size .ensures, header-range (c .before .before .before .before .args .first .now))
+add-if2 c = omega (arith, c .header-size .ensures, header-range (start1 (c .before) .args .first .now))
 
 returns-2 : tie.Need-returns-2
 unfolding readRules
 returns-2 c = sym (past1 (c .before .before) ∙ broken _ _ (lt-ltb _ _ (rw (c .before .header-size .ensures) at (c .if2 .taken))))
 
-past2 :
-    (c : tie.Else2)
-    → readRefusal (c .before .before .before .before .before .args .first .now) (c .before .before .before .before .before .args .response .now)
-    ≡ firstBroken (drop 2 (readRules (c .before .before .before .before .before .args .first .now) (c .before .before .before .before .before .args .response .now)))
+past2 : (c : tie.Else2) → Passed 2 (start2 c)
 unfolding readRules
 past2 c = past1 (c .before .before) ∙ kept _ _ (le-ltb _ _ (rw (c .before .header-size .ensures) at (c .if2 .left)))
 
@@ -53,80 +76,79 @@ returns-3 : tie.Need-returns-3
 unfolding readRules
 returns-3 c = sym (past2 (c .before .before) ∙ broken _ _ (rw (c .before .is-sealed .ensures) at (c .if3 .taken)))
 
-past3 :
-    (c : tie.Else3)
-    → readRefusal (c .before .before .before .before .before .before .before .args .first .now) (c .before .before .before .before .before .before .before .args .response .now)
-    ≡ firstBroken (drop 3 (readRules (c .before .before .before .before .before .before .before .args .first .now) (c .before .before .before .before .before .before .before .args .response .now)))
+past3 : (c : tie.Else3) → Passed 3 (start3 c)
 unfolding readRules
 past3 c = past2 (c .before .before) ∙ kept _ _ (rw (c .before .is-sealed .ensures) at (c .if3 .left))
 
-kind-of-requires : tie.Need-kind-of-requires
-kind-of-requires c κs = search needs
+kind-asked-requires : tie.Need-kind-asked-requires
+kind-asked-requires c κs = search needs
 
 is-unassigned-requires : tie.Need-is-unassigned-requires
 is-unassigned-requires c κs = search needs
 
+assigned : (c : tie.After-is-unassigned) → isUnassigned (kindAsked (start3 (c .before .before) .args .first .now)) ≡ c .is-unassigned .result
+assigned c = ap isUnassigned (sym (c .before .kind-asked .ensures)) ∙ sym (c .is-unassigned .ensures)
+
 returns-4 : tie.Need-returns-4
 unfolding readRules
-returns-4 c =
-    sym (past3 (c .before .before .before)
-    ∙ broken _ _ (ap isUnassigned (sym (c .before .before .kind-of .ensures)) ∙ sym (c .before .is-unassigned .ensures) ∙ c .if4 .taken))
+returns-4 c = sym (past3 (c .before .before .before) ∙ broken _ _ (assigned (c .before) ∙ c .if4 .taken))
 
-past4 :
-    (c : tie.Else4)
-    → readRefusal (c .before .before .before .before .before .before .before .before .before .before .args .first .now) (c .before .before .before .before .before .before .before .before .before .before .args .response .now)
-    ≡ firstBroken (drop 4 (readRules (c .before .before .before .before .before .before .before .before .before .before .args .first .now) (c .before .before .before .before .before .before .before .before .before .before .args .response .now)))
+past4 : (c : tie.Else4) → Passed 4 (start4 c)
 unfolding readRules
-past4 c = past3 (c .before .before .before) ∙ kept _ _ (ap isUnassigned (sym (c .before .before .kind-of .ensures)) ∙ sym (c .before .is-unassigned .ensures) ∙ c .if4 .left)
+past4 c = past3 (c .before .before .before) ∙ kept _ _ (assigned (c .before) ∙ c .if4 .left)
 
-answer-size-requires : tie.Need-answer-size-requires
-answer-size-requires c κs = search needs
+response-size-requires : tie.Need-response-size-requires
+response-size-requires c κs = search needs
 
 wrong-count-requires : tie.Need-wrong-count-requires
 wrong-count-requires c κs = search needs
 
+-- Whether the response's count is wrong for a kind.
+abbrev miscounted : tie.Start → ResponseKind → Bool
+miscounted s k = wrongCount k (responseSize k (length (s .args .response .now)))
+
 counted :
     (c : tie.After-wrong-count)
-    → wrongCount (kindOf (c .before .before .before .before .before .before .before .before .before .before .before .before .args .first .now)) (answerSize (kindOf (c .before .before .before .before .before .before .before .before .before .before .before .before .args .first .now)) (length (c .before .before .before .before .before .before .before .before .before .before .before .before .args .response .now))) ≡ c .wrong-count .result
+    → (let s = start4 (c .before .before) in miscounted s (kindAsked (s .args .first .now))) ≡ c .wrong-count .result
 counted c =
-    ap (λ (k : ResponseKind). wrongCount k (answerSize k (length (c .before .before .before .before .before .before .before .before .before .before .before .before .args .response .now)))) (sym (c .before .before .before .before .kind-of .ensures))
-    ∙ ap (wrongCount (c .before .before .before .before .kind-of .result)) (sym (c .before .answer-size .ensures))
+    let kind = c .before .before .before .before .kind-asked in
+    ap (miscounted (start4 (c .before .before))) (sym (kind .ensures))
+    ∙ ap (wrongCount (kind .result)) (sym (c .before .response-size .ensures))
     ∙ sym (c .wrong-count .ensures)
 
 returns-5 : tie.Need-returns-5
 unfolding readRules
 returns-5 c = sym (past4 (c .before .before .before) ∙ broken _ _ (counted (c .before) ∙ c .if5 .taken))
 
-past5 :
-    (c : tie.Else5)
-    → readRefusal (c .before .before .before .before .before .before .before .before .before .before .before .before .before .args .first .now) (c .before .before .before .before .before .before .before .before .before .before .before .before .before .args .response .now)
-    ≡ firstBroken (drop 5 (readRules (c .before .before .before .before .before .before .before .before .before .before .before .before .before .args .first .now) (c .before .before .before .before .before .before .before .before .before .before .before .before .before .args .response .now)))
+past5 : (c : tie.Else5) → Passed 5 (start5 c)
 unfolding readRules
 past5 c = past4 (c .before .before .before) ∙ kept _ _ (counted (c .before) ∙ c .if5 .left)
 
 is-checked-requires : tie.Need-is-checked-requires
 is-checked-requires c κs = search needs
 
-checked : (c : tie.After-is-checked) → isChecked (kindOf (c .before .before .before .before .before .before .before .before .before .before .before .before .before .before .args .first .now)) ≡ c .is-checked .result
-checked c = ap isChecked (sym (c .before .before .before .before .before .before .kind-of .ensures)) ∙ sym (c .is-checked .ensures)
+checked : (c : tie.After-is-checked) → isChecked (kindAsked (start5 (c .before) .args .first .now)) ≡ c .is-checked .result
+checked c = ap isChecked (sym (c .before .before .before .before .before .before .kind-asked .ensures)) ∙ sym (c .is-checked .ensures)
 
 is-sealed-requires-2 : tie.Need-is-sealed-requires-2
 is-sealed-requires-2 c κs = search needs
 
-response-sealed : (c : tie.After-is-sealed2) → isSealed (c .before .before .before .before .before .before .before .before .before .before .before .before .before .before .before .before .args .response .now) ≡ c .is-sealed2 .result
+response-sealed : (c : tie.After-is-sealed2) → isSealed (start5 (c .before .before .before) .args .response .now) ≡ c .is-sealed2 .result
 response-sealed c = sym (c .is-sealed2 .ensures)
 
 returns-6 : tie.Need-returns-6
 unfolding readRules
 returns-6 c =
-    sym (past5 (c .before .before .before .before)
-    ∙ broken _ _ (rw (checked (c .before .before .before), c .before .before .if6 .taken, response-sealed (c .before)) (c .if7 .taken)))
+    let asked = c .before .before .before in
+    let is = c .before .before .if6 .taken in
+    sym (past5 (asked .before) ∙ broken _ _ (rw (checked asked, is, response-sealed (c .before)) (c .if7 .taken)))
 
 returns-7 : tie.Need-returns-7
 unfolding readRules
 returns-7 c =
-    sym (past5 (c .before .before .before .before)
-    ∙ last-kept _ (rw (checked (c .before .before .before), c .before .before .if6 .taken, response-sealed (c .before)) (c .if7 .left)))
+    let asked = c .before .before .before in
+    let is = c .before .before .if6 .taken in
+    sym (past5 (asked .before) ∙ last-kept _ (rw (checked asked, is, response-sealed (c .before)) (c .if7 .left)))
 
 returns-8 : tie.Need-returns-8
 unfolding readRules
@@ -143,10 +165,10 @@ read-refusal-spec =
     returns-2
     is-sealed-requires
     returns-3
-    kind-of-requires
+    kind-asked-requires
     is-unassigned-requires
     returns-4
-    answer-size-requires
+    response-size-requires
     wrong-count-requires
     returns-5
     is-checked-requires

@@ -3,9 +3,9 @@ use mathlib.Core.Path.{refl}
 use mathlib.Core.List.{_++_}
 use native.Mathlib.Omega.{arith}
 use lib.ListN.{length-append}
-use Rattle.frame.proofs.CheckByteLaws.{length-sealed}
-use Rattle.frame.proofs.WriterLaws.{sealed-behind}
-use Rattle.frame.proofs.PlacedLaws.{joined}
+use Rattle.frame.proofs.check_byte.Laws.{length-sealed}
+use Rattle.frame.proofs.writer.Laws.{sealed-behind}
+use Rattle.frame.proofs.bytes.Placed.{joined}
 use borrow.Author.Needs.{needs}
 use Rattle.frame.proofs.writer.put_first.Statement.{statement}
 use Rattle.frame.proofs.writer.put_first.Tie as tie
@@ -30,17 +30,15 @@ same-length c = search needs
 
 returns : tie.Need-returns
 returns c =
-    let start = c .before .before .before .before .before .before .before .before .before .before .before .before .before .before .before .args in
-    let header = start .header .now in
-    let body = start .body .now in
-    let put = c .before .before .before .before .before .before .before .before .before .before .put .ensures in
-    let size = length-append header body in (
-      sealed-behind (start .out .now) 0 (header ++ body)
-          (joined (start .out .now) 0 header body put (c .before .before .before .before .before .before .put2 .ensures) (omega arith) (omega arith))
-          (c .before .before .seal .ensures)
-          refl
-          (omega (arith, size))
-          (omega (arith, size)),
+    let second = c .before .before .before .before .before .before in
+    let first = second .before .before .before .before in
+    let a = first .before .before .before .before .before .args in
+    let out = a .out .now in
+    let header = a .header .now in
+    let body = a .body .now in
+    let size = length-append header body in
+    let both = joined out 0 header body (first .put .ensures) (second .put2 .ensures) (omega arith) (omega arith) in (
+      sealed-behind out 0 (header ++ body) both (c .before .before .seal .ensures) refl (omega (arith, size)) (omega (arith, size)),
       omega (arith, size, length-sealed (header ++ body)),
     )
 

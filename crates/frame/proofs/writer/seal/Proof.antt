@@ -3,7 +3,7 @@ use mathlib.Core.Path.{ap, _∙_}
 use mathlib.Core.List.{_∷_, []}
 use Prim.Native.Nat.{ℕ}
 use Rattle.frame.specs.Bytes.{placed}
-use Rattle.frame.proofs.PlacedLaws.{stored}
+use Rattle.frame.proofs.bytes.Placed.{stored}
 use borrow.Author.Needs.{needs}
 use Rattle.frame.proofs.writer.seal.Statement.{statement}
 use Rattle.frame.proofs.writer.seal.Tie as tie
@@ -28,8 +28,10 @@ same-length c = search needs
 
 returns : tie.Need-returns
 returns c =
-    stored (c .before .before .before .before .args .out .now) (c .before .before .before .before .args .end) (c .check-byte .result) (c .before .before .before .before .pre .1)
-    ∙ ap (λ (b : ℕ). placed (c .before .before .before .before .args .out .now) (c .before .before .before .before .args .end) (b ∷ [])) (c .check-byte .ensures)
+    let s = c .before .before .before .before in
+    let out = s .args .out .now in
+    let end = s .args .end in
+    stored out end (c .check-byte .result) (s .pre .1) ∙ ap (λ (b : ℕ). placed out end (b ∷ [])) (c .check-byte .ensures)
 
 pub seal-spec : {M : Type 1} → statement M
 seal-spec =

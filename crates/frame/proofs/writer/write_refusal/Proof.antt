@@ -1,19 +1,40 @@
 -- Each test is its rule; a test that is passed leaves the rules after it.
 use mathlib.Core.Path.{_≡_, sym, ap, _∙_}
 use mathlib.Core.Bool.{not}
+use Prim.Native.Nat.{ℕ}
 use native.Mathlib.Omega.{arith}
+use borrow.Author.Needs.{needs}
 use borrow.Author.Tests.{lt-ltb, le-ltb, eq-eqb, ne-eqb}
 use lib.ListN.{length, drop}
-use Rattle.frame.specs.Header.{kindOf, isUnassigned}
-use Rattle.frame.specs.Frame.{wrongCount}
-use Rattle.frame.specs.Rule.{firstBroken}
+use Rattle.frame.specs.Response.{isUnassigned, wrongCount}
+use Rattle.frame.specs.Header.{kindAsked}
+use Rattle.frame.specs.Refusal.{firstBroken}
 use Rattle.frame.specs.Writer.{writeRules, writeRefusal}
-use Rattle.frame.proofs.HeaderLaws.{header-range}
-use Rattle.frame.proofs.RuleLaws.{broken, kept, last-kept}
-use Rattle.frame.proofs.WriterLaws.{over-twelve}
-use borrow.Author.Needs.{needs}
+use Rattle.frame.proofs.header.Laws.{header-range}
+use Rattle.frame.proofs.refusal.Laws.{broken, kept, last-kept}
+use Rattle.frame.proofs.writer.Laws.{over-most}
 use Rattle.frame.proofs.writer.write_refusal.Statement.{statement}
 use Rattle.frame.proofs.writer.write_refusal.Tie as tie
+
+-- The first n rules are kept.
+abbrev Passed : ℕ → tie.Start → Type 0
+Passed n s =
+    let a = s .args in
+    writeRefusal (a .header .now) (a .body .now) (a .response .now) (a .room)
+    ≡ firstBroken (drop n (writeRules (a .header .now) (a .body .now) (a .response .now) (a .room)))
+
+-- Where the function started, seen from each test that was passed.
+abbrev start1 : tie.Else1 → tie.Start
+start1 c = c .before .before .before .before .before
+
+abbrev start2 : tie.Else2 → tie.Start
+start2 c = start1 (c .before .before .before)
+
+abbrev start3 : tie.Else3 → tie.Start
+start3 c = start2 (c .before .before)
+
+abbrev start4 : tie.Else6 → tie.Start
+start4 c = start3 (c .before .before .before .before)
 
 header-size-requires : tie.Need-header-size-requires
 header-size-requires c κs = search needs
@@ -22,73 +43,72 @@ returns : tie.Need-returns
 unfolding writeRefusal writeRules
 returns c = sym (broken _ _ (ap not (ne-eqb _ _ (λ e. c .if1 .taken (e ∙ sym (c .before .header-size .ensures))))))
 
-past1 :
-    (c : tie.Else1)
-    → writeRefusal (c .before .before .before .before .before .args .header .now) (c .before .before .before .before .before .args .body .now) (c .before .before .before .before .before .args .answer .now) (c .before .before .before .before .before .args .room)
-    ≡ firstBroken (drop 1 (writeRules (c .before .before .before .before .before .args .header .now) (c .before .before .before .before .before .args .body .now) (c .before .before .before .before .before .args .answer .now) (c .before .before .before .before .before .args .room)))
+past1 : (c : tie.Else1) → Passed 1 (start1 c)
 unfolding writeRefusal writeRules
 past1 c = kept _ _ (ap not (eq-eqb _ _ (c .if1 .left ∙ c .before .header-size .ensures)))
 
-kind-of-requires : tie.Need-kind-of-requires
-kind-of-requires c κs = search needs
+kind-asked-requires : tie.Need-kind-asked-requires
+kind-asked-requires c κs = search needs
 
 is-unassigned-requires : tie.Need-is-unassigned-requires
 is-unassigned-requires c κs = search needs
 
-assigned : (c : tie.After-is-unassigned) → isUnassigned (kindOf (c .before .before .before .before .before .before .before .args .header .now)) ≡ c .is-unassigned .result
-assigned c = ap isUnassigned (sym (c .before .kind-of .ensures)) ∙ sym (c .is-unassigned .ensures)
+assigned : (c : tie.After-is-unassigned) → isUnassigned (kindAsked (start1 (c .before .before) .args .header .now)) ≡ c .is-unassigned .result
+assigned c = ap isUnassigned (sym (c .before .kind-asked .ensures)) ∙ sym (c .is-unassigned .ensures)
 
 returns-2 : tie.Need-returns-2
 unfolding writeRules
 returns-2 c = sym (past1 (c .before .before .before) ∙ broken _ _ (assigned (c .before) ∙ c .if2 .taken))
 
-past2 :
-    (c : tie.Else2)
-    → writeRefusal (c .before .before .before .before .before .before .before .before .args .header .now) (c .before .before .before .before .before .before .before .before .args .body .now) (c .before .before .before .before .before .before .before .before .args .answer .now) (c .before .before .before .before .before .before .before .before .args .room)
-    ≡ firstBroken (drop 2 (writeRules (c .before .before .before .before .before .before .before .before .args .header .now) (c .before .before .before .before .before .before .before .before .args .body .now) (c .before .before .before .before .before .before .before .before .args .answer .now) (c .before .before .before .before .before .before .before .before .args .room)))
+past2 : (c : tie.Else2) → Passed 2 (start2 c)
 unfolding writeRules
 past2 c = past1 (c .before .before .before) ∙ kept _ _ (assigned (c .before) ∙ c .if2 .left)
 
 wrong-count-requires : tie.Need-wrong-count-requires
 wrong-count-requires c κs = search needs
 
-counted : (c : tie.After-wrong-count) → wrongCount (kindOf (c .before .before .before .before .before .before .before .before .before .args .header .now)) (length (c .before .before .before .before .before .before .before .before .before .args .answer .now)) ≡ c .wrong-count .result
+counted :
+    (c : tie.After-wrong-count)
+    → (let a = start2 (c .before) .args in wrongCount (kindAsked (a .header .now)) (length (a .response .now))) ≡ c .wrong-count .result
 counted c =
-    ap (λ k. wrongCount k (length (c .before .before .before .before .before .before .before .before .before .args .answer .now))) (sym (c .before .before .before .kind-of .ensures)) ∙ sym (c .wrong-count .ensures)
+    let n = length (start2 (c .before) .args .response .now) in
+    ap (λ k. wrongCount k n) (sym (c .before .before .before .kind-asked .ensures)) ∙ sym (c .wrong-count .ensures)
 
 returns-3 : tie.Need-returns-3
 unfolding writeRules
 returns-3 c = sym (past2 (c .before .before) ∙ broken _ _ (counted (c .before) ∙ c .if3 .taken))
 
-past3 :
-    (c : tie.Else3)
-    → writeRefusal (c .before .before .before .before .before .before .before .before .before .before .args .header .now) (c .before .before .before .before .before .before .before .before .before .before .args .body .now) (c .before .before .before .before .before .before .before .before .before .before .args .answer .now) (c .before .before .before .before .before .before .before .before .before .before .args .room)
-    ≡ firstBroken (drop 3 (writeRules (c .before .before .before .before .before .before .before .before .before .before .args .header .now) (c .before .before .before .before .before .before .before .before .before .before .args .body .now) (c .before .before .before .before .before .before .before .before .before .before .args .answer .now) (c .before .before .before .before .before .before .before .before .before .before .args .room)))
+past3 : (c : tie.Else3) → Passed 3 (start3 c)
 unfolding writeRules
 past3 c = past2 (c .before .before) ∙ kept _ _ (counted (c .before) ∙ c .if3 .left)
 
 returns-4 : tie.Need-returns-4
 unfolding writeRules
 returns-4 c =
-    sym (past3 (c .before) ∙ broken _ _ (over-twelve (c .before .before .before .before .before .before .before .before .before .before .before .args .header .now) (c .before .before .before .before .before .before .before .before .before .before .before .args .body .now) (c .before .before .before .before .before .before .before .before .before .before .before .args .answer .now) (omega (arith, c .if4 .taken))))
+    let a = start3 (c .before) .args in
+    let over = over-most (a .header .now) (a .body .now) (a .response .now) (omega (arith, c .if4 .taken)) in
+    sym (past3 (c .before) ∙ broken _ _ over)
 
 returns-5 : tie.Need-returns-5
 unfolding writeRules
 returns-5 c =
-    sym (past3 (c .before .before) ∙ broken _ _ (over-twelve (c .before .before .before .before .before .before .before .before .before .before .before .before .args .header .now) (c .before .before .before .before .before .before .before .before .before .before .before .before .args .body .now) (c .before .before .before .before .before .before .before .before .before .before .before .before .args .answer .now) (omega (arith, c .if5 .taken))))
+    let a = start3 (c .before .before) .args in
+    let over = over-most (a .header .now) (a .body .now) (a .response .now) (omega (arith, c .if5 .taken)) in
+    sym (past3 (c .before .before) ∙ broken _ _ over)
 
 frame-size-requires : tie.Need-frame-size-requires
-frame-size-requires c κs = omega (arith, c .before .before .before .before .before .before .before .if1 .left, c .before .before .before .before .before .before .before .before .header-size .ensures, header-range (c .before .before .before .before .before .before .before .before .before .before .before .before .args .header .now))
+frame-size-requires c κs =
+    let passed = c .before .before .before .before .before .before .before in
+    let header = start1 passed .args .header .now in
+    omega (arith, passed .if1 .left, passed .before .header-size .ensures, header-range header)
 
 returns-6 : tie.Need-returns-6
 unfolding writeRules
 returns-6 c =
-    sym (past3 (c .before .before .before .before) ∙ broken _ _ (lt-ltb _ _ (rw (c .before .frame-size .ensures) at (c .if6 .taken))))
+    let over = lt-ltb _ _ (rw (c .before .frame-size .ensures) at (c .if6 .taken)) in
+    sym (past3 (c .before .before .before .before) ∙ broken _ _ over)
 
-past4 :
-    (c : tie.Else6)
-    → writeRefusal (c .before .before .before .before .before .before .before .before .before .before .before .before .before .before .args .header .now) (c .before .before .before .before .before .before .before .before .before .before .before .before .before .before .args .body .now) (c .before .before .before .before .before .before .before .before .before .before .before .before .before .before .args .answer .now) (c .before .before .before .before .before .before .before .before .before .before .before .before .before .before .args .room)
-    ≡ firstBroken (drop 4 (writeRules (c .before .before .before .before .before .before .before .before .before .before .before .before .before .before .args .header .now) (c .before .before .before .before .before .before .before .before .before .before .before .before .before .before .args .body .now) (c .before .before .before .before .before .before .before .before .before .before .before .before .before .before .args .answer .now) (c .before .before .before .before .before .before .before .before .before .before .before .before .before .before .args .room)))
+past4 : (c : tie.Else6) → Passed 4 (start4 c)
 unfolding writeRules
 past4 c = past3 (c .before .before .before .before) ∙ kept _ _ (le-ltb _ _ (rw (c .before .frame-size .ensures) at (c .if6 .left)))
 
@@ -106,7 +126,7 @@ write-refusal-spec =
     (tie.spec
     header-size-requires
     returns
-    kind-of-requires
+    kind-asked-requires
     is-unassigned-requires
     returns-2
     wrong-count-requires

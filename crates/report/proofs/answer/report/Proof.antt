@@ -6,9 +6,9 @@ use native.Mathlib.Omega.{arith}
 use native.Mathlib.Nat.{add-sub-cancel-left}
 use lib.ListN.{length, take, drop, length-take, length-drop}
 use lib.Seq.{length-take-le}
-use Rattle.frame.specs.Rule.{refused, accepted}
-use Rattle.frame.specs.Reader.{readFrame, Sizes, sizes, readingOf, Handed}
-use Rattle.frame.proofs.ReaderLaws.{handed, CutOut, cut-out, refusal-handed}
+use Rattle.frame.specs.Refusal.{refused, accepted}
+use Rattle.frame.specs.Reader.{readFrame, Sizes, sizes, readingOf, SizesHanded}
+use Rattle.frame.proofs.reader.Laws.{sizes-handed, CutOut, cut-out, refusal-handed}
 use Rattle.catalogue.specs.Supplement.{Accepted}
 use Rattle.catalogue.specs.Lookup.{catalogue}
 use Rattle.report.specs.Report.{Message, keyByte, keyTarget, messageOf, reportOf}
@@ -47,13 +47,13 @@ enum-known-reading-2 c = search needs
 
 -- what the reader handed over
 abbrev given : tie.After-known-told2 → Sizes
-given c = record { header = c .before .reading2 .given .0 .0; body = c .before .reading2 .given .0 .1 .0; kind = c .before .reading2 .given .0 .1 .1 .0; answer = c .before .reading2 .given .0 .1 .1 .1 .0 }
+given c = record { header = c .before .reading2 .given .0 .0; body = c .before .reading2 .given .0 .1 .0; kind = c .before .reading2 .given .0 .1 .1 .0; response = c .before .reading2 .given .0 .1 .1 .1 .0 }
 
 told : (c : tie.After-known-told2) → sizes (readFrame (c .before .before .before .before .before .before .before .before .before .before .before .args .first .now) (c .before .before .before .before .before .before .before .before .before .before .before .args .response .now)) ≡ accepted (given c)
 told c = sym (c .before .before .before .read-frame .ensures) ∙ ap readingOf (c .before .reading2 .given .1)
 
-within : (c : tie.After-known-told2) → Handed (c .before .before .before .before .before .before .before .before .before .before .before .args .first .now) (c .before .before .before .before .before .before .before .before .before .before .before .args .response .now) (given c)
-within c = handed (c .before .before .before .before .before .before .before .before .before .before .before .args .first .now) (c .before .before .before .before .before .before .before .before .before .before .before .args .response .now) (given c) (told c)
+within : (c : tie.After-known-told2) → SizesHanded (c .before .before .before .before .before .before .before .before .before .before .before .args .first .now) (c .before .before .before .before .before .before .before .before .before .before .before .args .response .now) (given c)
+within c = sizes-handed (c .before .before .before .before .before .before .before .before .before .before .before .args .first .now) (c .before .before .before .before .before .before .before .before .before .before .before .args .response .now) (given c) (told c)
 
 add-end : tie.Need-add-end
 add-end c = omega (arith, within c)

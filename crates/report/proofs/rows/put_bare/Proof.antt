@@ -1,7 +1,7 @@
 -- One store is a run of one byte placed.
 use mathlib.Core.Path.{refl}
 use native.Mathlib.Omega.{arith}
-use Rattle.frame.proofs.PlacedLaws.{stored}
+use Rattle.frame.proofs.bytes.Placed.{stored}
 use borrow.Author.Needs.{needs}
 use Rattle.report.proofs.rows.put_bare.Statement.{statement}
 use Rattle.report.proofs.rows.put_bare.Tie as tie

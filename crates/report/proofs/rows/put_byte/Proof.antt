@@ -4,7 +4,7 @@ use mathlib.Core.List.{[], _∷_}
 use Prim.Native.Nat.{_+_}
 use native.Mathlib.Omega.{arith}
 use lib.ListN.{set, length-set}
-use Rattle.frame.proofs.PlacedLaws.{stored}
+use Rattle.frame.proofs.bytes.Placed.{stored}
 use Rattle.report.proofs.RowsLaws.{kind-behind}
 use borrow.Author.Needs.{needs}
 use Rattle.report.proofs.rows.put_byte.Statement.{statement}

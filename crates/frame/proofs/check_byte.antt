@@ -1,0 +1,2 @@
+-- Laws of the register and the check byte.
+pub mod Laws

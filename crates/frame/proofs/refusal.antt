@@ -1,0 +1,2 @@
+-- Laws of refusals: the rules in their order.
+pub mod Laws

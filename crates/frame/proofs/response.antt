@@ -1,0 +1,2 @@
+-- Laws of the response.
+pub mod Laws
