@@ -5,13 +5,13 @@ use frame::reader::read_frame;
 use frame::writer::Writing;
 use frame::writer::write_frame;
 use report::answer::Reported;
-use report::answer::report;
+use report::j1850::report;
 ghost use mathlib.Core.Path.{_≡_};
 ghost use lib.ListN.{length};
 ghost use Rattle.frame.specs.Reader.{readFrame, sizes};
 ghost use Rattle.frame.specs.Writer.{writeFrame, runs, outWritten};
 ghost use Rattle.catalogue.specs.Supplement.{check};
-ghost use Rattle.report.specs.Answer.{reportAnswer, sized, outAfter};
+ghost use Rattle.report.specs.Answer.{j1850Answer, sized, outAfter};
 ghost use Rattle.c_api.specs.Words.{readWord, writeWord, checkWord, reportWord};
 
 // What one counts for in bytes 1 to 4 of an answer; byte 0 is the refusal.
@@ -80,8 +80,8 @@ pub extern "C" fn rakhubole_j1850_report(
     response: &[u8],
     out: &mut [u8],
 ) -> u64
-    ensures told { λ r. ⌜ r ≡ reportWord (sized (reportAnswer (now (supplement .entry)) (now (first .entry)) (now (response .entry)) (length (now (out .entry))))) ⌝ }
-    ensures left { λ r. ⌜ now (out .exit) ≡ outAfter (reportAnswer (now (supplement .entry)) (now (first .entry)) (now (response .entry)) (length (now (out .entry)))) (now (out .entry)) ⌝ }
+    ensures told { λ r. ⌜ r ≡ reportWord (sized (j1850Answer (now (supplement .entry)) (now (first .entry)) (now (response .entry)) (length (now (out .entry))))) ⌝ }
+    ensures left { λ r. ⌜ now (out .exit) ≡ outAfter (j1850Answer (now (supplement .entry)) (now (first .entry)) (now (response .entry)) (length (now (out .entry)))) (now (out .entry)) ⌝ }
 {
     let reported = report(supplement, first, response, out);
     match reported {

@@ -1,11 +1,4 @@
--- Laws that belong to no one function.
-pub mod SearchLaws
-pub mod RowLaws
-pub mod TableLaws
-pub mod FilterLaws
-pub mod RecordLaws
-pub mod SupplementLaws
-pub mod CheckLaws
-pub mod AcceptedLaws
-pub mod WithinLaws
-pub mod LookupLaws
+-- Theorems for the signer. Laws of one module stand below its name.
+pub mod SaeTables
+pub mod Accepted
+pub mod Within

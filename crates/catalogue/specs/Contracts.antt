@@ -1,5 +1,6 @@
--- What only inner functions cite: places of records, parts of the SAE tables, the filter of keys. No public contract reaches here.
-use Prim.Native.Nat.{ℕ, zero, suc, _+_, _-_, _*_, _/_, _%_, _^_, _≤_}
+-- What only inner functions cite: places of records, what loops keep, parts of the SAE tables, the filter of keys. No public contract
+-- reaches here.
+use Prim.Native.Nat.{ℕ, zero, suc, _+_, _-_, _*_, _/_, _%_, _^_, _≤_, _<_}
 use mathlib.Core.Path.{_≡_}
 use mathlib.Core.Bool.{Bool, true, cond}
 use mathlib.Core.List.{List, [], _∷_, List·Memᴰ}
@@ -14,8 +15,10 @@ use Rattle.catalogue.specs.declared.supplement.RecordFound.the-variants.
 use Rattle.catalogue.specs.Rows.{prn, slot}
 use Rattle.catalogue.specs.Tables.{slotRows}
 use Rattle.catalogue.specs.Search.{firstWhere, rising}
-use Rattle.catalogue.specs.Sae.{prnIs, saePrn, slotKey}
-use Rattle.catalogue.specs.Record.{recordSize, kindOf, keyOf, two}
+use Rattle.catalogue.specs.Sae.{prnIs, saePrn, slotRowKey}
+use Rattle.catalogue.specs.Kind.{recordSize}
+use Rattle.catalogue.specs.Record.{recordKind, keyOf, recordWith, two, MostPrns, PrnsAt}
+use Rattle.catalogue.specs.Supplement.{recordsOf, checkFrom, check, Whole}
 
 -- The record that starts at a place.
 abbrev pub recordFrom : List ℕ → ℕ → List ℕ
@@ -28,7 +31,24 @@ recordAt s (At a e) = some (take (e - a) (drop a s))
 
 abbrev pub Spanned : List ℕ → RecordFound → Type 0
 Spanned s Missing = Unit {0}
-Spanned s (At a e) = (a ≤ e) × (e ≤ length s)
+Spanned s (At a e) = (a < e) × (e ≤ length s)
+
+-- The search at a place: what is sought among all records is sought among those from there on, and the size kept is that of the kind.
+pub record Seeking (s key : List ℕ) (at kind size : ℕ) : Type 0 where
+  pub rest : recordWith key (recordsOf s) ≡ recordWith key (recordsOf (drop at s))
+  pub within : at ≤ length s
+  pub sized : size ≡ recordSize kind
+
+-- The record that a run of bytes is; no record is empty.
+unfoldable pub recordIn : List ℕ → Option (List ℕ)
+recordIn [] = none
+recordIn (b ∷ r) = some (b ∷ r)
+
+-- The first PRNs of a layout record, read into an array.
+pub record PrnsRead (r prns : List ℕ) (n : ℕ) : Type 0 where
+  pub each : (j : ℕ) → j < n → getD prns j 0 ≡ two r (PrnsAt + j * 2)
+  pub room : length prns ≡ MostPrns
+  pub most : n ≤ MostPrns
 
 -- A number is the key that is sought.
 abbrev pub keyIs : ℕ → ℕ → Bool
@@ -39,45 +59,70 @@ unfoldable pub rowsFrom : {A : Type 0} → (ℕ → A) → ℕ → ℕ → List 
 rowsFrom row i zero = []
 rowsFrom row i (suc n) = row i ∷ rowsFrom row (suc i) n
 
--- Eleven PRN rows: the PRNs, then form, width and SLOT number of each in one number.
+-- A part of the PRN rows: the PRNs, then form, width and SLOT number of each in one number.
+abbrev pub PrnsAPart : ℕ
+PrnsAPart = 11
+
 abbrev pub prnAt : List ℕ → ℕ → PrnRow
 prnAt words i =
-    prn (getD words i 0) (getD words (11 + i) 0 / 2 ^ 24) (getD words (11 + i) 0 / 2 ^ 16 % 2 ^ 8) (getD words (11 + i) 0 % 2 ^ 16)
+    let slot = getD words (PrnsAPart + i) 0 in
+    prn (getD words i 0) (slot / 2 ^ 24) (slot / 2 ^ 16 % 2 ^ 8) (slot % 2 ^ 16)
 
 abbrev pub prnsIn : List ℕ → List PrnRow
-prnsIn words = rowsFrom (prnAt words) 0 11
+prnsIn words = rowsFrom (prnAt words) 0 PrnsAPart
 
 -- A part in which a PRN is found exactly as in the whole table.
 pub record PrnPart (p : ℕ) (words : List ℕ) : Type 0 where
-  pub size : length words ≡ 22
-  pub rises : rising (take 11 words) ≡ true
+  pub size : length words ≡ 2 * PrnsAPart
+  pub rises : rising (take PrnsAPart words) ≡ true
   pub same : firstWhere (prnIs p) (prnsIn words) ≡ saePrn p
 
--- Five SLOT rows: the keys, which are form, width and number; multiplier and divisor; offsets, lowest and highest raw numbers.
+-- A part of the SLOT rows: the keys, which are form, width and number; multiplier and divisor; offsets, lowest and highest raw numbers.
+abbrev pub SlotsAPart : ℕ
+SlotsAPart = 5
+
 abbrev pub slotAt : List ℕ → ℕ → SlotRow
 slotAt words i =
-    slot (getD words i 0 / 2 ^ 24) (getD words i 0 / 2 ^ 16 % 2 ^ 8) (getD words i 0 % 2 ^ 16) (getD words (5 + i) 0 / 2 ^ 16)
-    (getD words (5 + i) 0 % 2 ^ 16) (getD words (10 + i) 0) (getD words (15 + i) 0) (getD words (20 + i) 0)
+    let key = getD words i 0 in
+    let scale = getD words (SlotsAPart + i) 0 in
+    slot (key / 2 ^ 24) (key / 2 ^ 16 % 2 ^ 8) (key % 2 ^ 16) (scale / 2 ^ 16) (scale % 2 ^ 16)
+    (getD words (2 * SlotsAPart + i) 0) (getD words (3 * SlotsAPart + i) 0) (getD words (4 * SlotsAPart + i) 0)
 
 abbrev pub slotsIn : List ℕ → List SlotRow
-slotsIn words = rowsFrom (slotAt words) 0 5
+slotsIn words = rowsFrom (slotAt words) 0 SlotsAPart
 
 -- The same for a SLOT, by its key as one number.
 pub record SlotPart (key : ℕ) (words : List ℕ) : Type 0 where
-  pub size : length words ≡ 25
-  pub rises : rising (take 5 words) ≡ true
-  pub same : firstWhere (λ r. keyIs key (slotKey r)) (slotsIn words) ≡ firstWhere (λ r. keyIs key (slotKey r)) slotRows
+  pub size : length words ≡ 5 * SlotsAPart
+  pub rises : rising (take SlotsAPart words) ≡ true
+  pub same : firstWhere (λ r. keyIs key (slotRowKey r)) (slotsIn words) ≡ firstWhere (λ r. keyIs key (slotRowKey r)) slotRows
 
--- The place of a key's bit.
+-- The place of a key's bit: the bits of a filter, and what spreads kinds and keys over them.
+abbrev pub FilterBits : ℕ
+FilterBits = 65536
+
+abbrev pub KindStep : ℕ
+KindStep = 21845
+
+abbrev pub KeyStep : ℕ
+KeyStep = 40503
+
 unfoldable pub bitOf : List ℕ → ℕ
-bitOf key = (kindOf key * 21845 + two key 1 * 40503 + two key 3) % 65536
+bitOf key = (recordKind key * KindStep + two key 1 * KeyStep + two key 3) % FilterBits
+
+abbrev pub WordBits : ℕ
+WordBits = 64
 
 -- The word that has a bit, and whether the bit is set; a filter of no words counts as full.
 abbrev pub wordOf : List ℕ → ℕ → ℕ
-wordOf f bit = bitAnd (bit / 64) (length f - 1)
+wordOf f bit = bitAnd (bit / WordBits) (length f - 1)
+
+-- What a word has at the place of a bit.
+abbrev pub bitIn : ℕ → ℕ → ℕ
+bitIn word bit = word / 2 ^ (bit % WordBits) % 2
 
 unfoldable pub marked : List ℕ → ℕ → Bool
-marked f bit = cond (eqb (length f) 0) true (eqb (getD f (wordOf f bit) 0 / 2 ^ (bit % 64) % 2) 1)
+marked f bit = cond (eqb (length f) 0) true (eqb (bitIn (getD f (wordOf f bit) 0) bit) 1)
 
 -- A key is marked: its bit is set, those set before stay so, and the answer is whether it was set before.
 pub record Marks (before after key : List ℕ) (answer : Bool) : Type 0 where
@@ -88,3 +133,11 @@ pub record Marks (before after key : List ℕ) (answer : Bool) : Type 0 where
 -- Every record has its bit.
 abbrev pub Covers : List ℕ → List (List ℕ) → Type 0
 Covers f rs = (r : List ℕ) → List·Memᴰ r rs → marked f (bitOf (keyOf r)) ≡ true
+
+-- The test of records at a place: what is told of all is told of those from there on, after those before it, which are whole and have
+-- their bits in the filter.
+pub record Passed (s f : List ℕ) (at : ℕ) : Type 0 where
+  pub test : check s ≡ checkFrom (recordsOf (take at s)) at (recordsOf (drop at s))
+  pub whole : Whole (take at s)
+  pub within : at ≤ length s
+  pub covers : Covers f (recordsOf (take at s))

@@ -1,7 +1,9 @@
+pub mod Refusal
 pub mod Rows
 pub mod Tables
 pub mod Search
 pub mod Sae
+pub mod Kind
 pub mod Record
 pub mod Supplement
 pub mod Lookup

@@ -1,5 +1,7 @@
 -- Records of a supplement: document 01, "The supplement". A record is its bytes, the kind byte first.
-use Prim.Native.Nat.{ℕ, zero, suc, _+_, _*_}
+use Prim.Native.Nat.{ℕ, zero, suc, _+_, _*_, _<_}
+use mathlib.Core.Path.{_≡_}
+use mathlib.Core.Option.{Option}
 use mathlib.Core.Bool.{Bool, true, false, cond, not, _&&_}
 use mathlib.Core.List.{List, [], _∷_}
 use lib.Dec.{eqb, leb, ltb}
@@ -8,29 +10,33 @@ use Rattle.frame.specs.Header.{priority, bitH}
 use Rattle.frame.specs.Refusal.{Rule, firstBroken}
 use Rattle.catalogue.specs.declared.rows.PrnRow.{PrnRow}
 use Rattle.catalogue.specs.declared.rows.SlotRow.{SlotRow}
+use Rattle.catalogue.specs.Refusal.{UnknownKind, CutByEnd, OutsideRange, KeyRepeated, KeyInSae}
 use Rattle.catalogue.specs.Rows.{prnFits, slotFits}
 use Rattle.catalogue.specs.Search.{firstWhere, isFound}
+use Rattle.catalogue.specs.Kind.{SLOT, PRN, LAYOUT, recordSize, keySize, known}
 use Rattle.catalogue.specs.Sae.{saePrn, saeSlot}
 
--- Bytes of a record by its kind: 1 SLOT, 2 PRN, 3 layout. An unknown kind is one byte.
-unfoldable pub recordSize : ℕ → ℕ
-recordSize kind = getD (1 ∷ 21 ∷ 7 ∷ 38 ∷ []) kind 1
-
--- Kind and key together are the first bytes of a record: form, width and number; the PRN; a layout's first four fields.
-unfoldable pub keySize : ℕ → ℕ
-keySize kind = getD (0 ∷ 5 ∷ 3 ∷ 5 ∷ []) kind 0
-
-abbrev pub kindOf : List ℕ → ℕ
-kindOf r = getD r 0 0
+-- Its kind; kind and key.
+abbrev pub recordKind : List ℕ → ℕ
+recordKind r = getD r 0 0
 
 abbrev pub keyOf : List ℕ → List ℕ
-keyOf r = take (keySize (kindOf r)) r
+keyOf r = take (keySize (recordKind r)) r
 
 -- Whether a record has that kind and key.
 unfoldable pub hasKey : List ℕ → List ℕ → Bool
 hasKey [] r = true
 hasKey (k ∷ ks) [] = false
 hasKey (k ∷ ks) (b ∷ bs) = eqb k b && hasKey ks bs
+
+-- The first record of a list with a kind and key.
+unfoldable pub recordWith : List ℕ → List (List ℕ) → Option (List ℕ)
+recordWith key rs = firstWhere (hasKey key) rs
+
+-- A kind and key as long as the kind says.
+pub record FullKey (key : List ℕ) : Type 0 where
+  pub kind : 0 < length key
+  pub size : length key ≡ keySize (recordKind key)
 
 -- Numbers have the most significant byte first.
 unfoldable pub two : List ℕ → ℕ → ℕ
@@ -56,13 +62,32 @@ slotRow r =
 unfoldable pub prnRow : List ℕ → PrnRow
 prnRow r = record { prn = two r 1; form = getD r 3 0; width = getD r 4 0; slot = two r 5 }
 
--- The PRNs of a layout record: as many of its sixteen as its count says.
+-- A layout's fields: its PRNs.
+pub record LayoutRow : Type 0 where
+  pub prns : List ℕ
+
+-- "count (0 to 16), sixteen PRNs (2 each)"
+abbrev pub MostPrns : ℕ
+MostPrns = 16
+
+abbrev pub layoutCount : List ℕ → ℕ
+layoutCount r = getD r 5 0
+
+-- The byte where the PRNs begin.
+abbrev pub PrnsAt : ℕ
+PrnsAt = 6
+
+-- As many numbers as are asked for, from a byte on.
 unfoldable pub numbers : ℕ → ℕ → List ℕ → List ℕ
 numbers zero i r = []
 numbers (suc n) i r = two r i ∷ numbers n (i + 2) r
 
-unfoldable pub layoutRow : List ℕ → List ℕ
-layoutRow r = take (getD r 5 0) (numbers 16 6 r)
+-- All sixteen; the layout's are as many of them as its count says.
+abbrev pub layoutPlaces : List ℕ → List ℕ
+layoutPlaces r = numbers MostPrns PrnsAt r
+
+unfoldable pub layoutRow : List ℕ → LayoutRow
+layoutRow r = record { prns = take (layoutCount r) (layoutPlaces r) }
 
 unfoldable pub allZero : List ℕ → Bool
 allZero [] = true
@@ -80,26 +105,28 @@ selectorFits present selector = cond (eqb present 0) (eqb selector 0) (eqb prese
 unfoldable pub layoutFits : List ℕ → Bool
 layoutFits r =
     headerFits (getD r 1 0) (getD r 2 0)
-    && (selectorFits (getD r 3 0) (getD r 4 0) && (leb (getD r 5 0) 16 && allZero (drop (6 + getD r 5 0 * 2) r)))
+    && (selectorFits (getD r 3 0) (getD r 4 0) && (leb (layoutCount r) MostPrns && allZero (drop (PrnsAt + layoutCount r * 2) r)))
 
--- Rule 13, by kind.
+-- Rule 13, by kind; nothing of an unknown kind is in range.
 unfoldable pub inRange : List ℕ → Bool
-inRange r = cond (eqb (kindOf r) 1) (slotFits (slotRow r)) (cond (eqb (kindOf r) 2) (prnFits (prnRow r)) (layoutFits r))
+inRange r =
+    cond (eqb (recordKind r) SLOT) (slotFits (slotRow r))
+    (cond (eqb (recordKind r) PRN) (prnFits (prnRow r)) (cond (eqb (recordKind r) LAYOUT) (layoutFits r) false))
 
--- Rule 15: the key of a SLOT or PRN record is in the SAE tables.
+-- Rule 15, by kind: the SAE tables have SLOTs and PRNs.
 unfoldable pub inSae : List ℕ → Bool
 inSae r =
-    cond (eqb (kindOf r) 1) (isFound (saeSlot (getD r 1 0) (getD r 2 0) (two r 3)))
-    (cond (eqb (kindOf r) 2) (isFound (saePrn (two r 1))) false)
+    cond (eqb (recordKind r) SLOT) (isFound (saeSlot (slotRow r .form) (slotRow r .width) (slotRow r .number)))
+    (cond (eqb (recordKind r) PRN) (isFound (saePrn (prnRow r .prn))) false)
 
--- A record's fault: the lowest of 11 to 15 that applies after the records `seen`, or 0.
+-- A record's fault: the lowest refusal that applies after the records `seen`, or 0.
 unfoldable pub faultRules : List (List ℕ) → List ℕ → List Rule
 faultRules seen r =
-    record { number = 11; broken = leb (recordSize (kindOf r)) 1 }
-    ∷ record { number = 12; broken = ltb (length r) (recordSize (kindOf r)) }
-    ∷ record { number = 13; broken = not (inRange r) }
-    ∷ record { number = 14; broken = isFound (firstWhere (hasKey (keyOf r)) seen) }
-    ∷ record { number = 15; broken = inSae r }
+    record { number = UnknownKind; broken = not (known (recordKind r)) }
+    ∷ record { number = CutByEnd; broken = ltb (length r) (recordSize (recordKind r)) }
+    ∷ record { number = OutsideRange; broken = not (inRange r) }
+    ∷ record { number = KeyRepeated; broken = isFound (recordWith (keyOf r) seen) }
+    ∷ record { number = KeyInSae; broken = inSae r }
     ∷ []
 
 unfoldable pub fault : List (List ℕ) → List ℕ → ℕ

@@ -59,9 +59,12 @@ signedLe x y = leb ((x + 2 ^ 31) % 2 ^ 32) ((y + 2 ^ 31) % 2 ^ 32)
 unfoldable pub inOrder : ℕ → ℕ → ℕ → Bool
 inOrder form lowest highest = cond (eqb form SNM) (signedLe lowest highest) (leb lowest highest)
 
--- "form 1 to 9", "width 1 to 64"
+-- "form 1 to 9 (UNM, SNM, SED, BMP, ASC, BCD, BMM, SFP, PKT); width 1 to 64"
+abbrev pub Widest : ℕ
+Widest = 64
+
 unfoldable pub keyFits : ℕ → ℕ → Bool
-keyFits form width = leb 1 form && leb form 9 && (leb 1 width && leb width 64)
+keyFits form width = leb UNM form && leb form PKT && (leb 1 width && leb width Widest)
 
 -- The ranges of a PRN row.
 unfoldable pub prnFits : PrnRow → Bool

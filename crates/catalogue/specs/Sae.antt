@@ -28,17 +28,17 @@ saeSlot f w n = firstWhere (slotIs f w n) slotRows
 abbrev pub packed : ℕ → ℕ → ℕ → ℕ
 packed f w n = f * 2 ^ 24 + w * 2 ^ 16 + n
 
-abbrev pub prnKey : PrnRow → ℕ
-prnKey r = r .prn
+abbrev pub prnRowKey : PrnRow → ℕ
+prnRowKey r = r .prn
 
-abbrev pub slotKey : SlotRow → ℕ
-slotKey r = packed (r .form) (r .width) (r .number)
+abbrev pub slotRowKey : SlotRow → ℕ
+slotRowKey r = packed (r .form) (r .width) (r .number)
 
 -- The rule of both tables: PRNs rise and SLOT keys rise, so that none stands twice, and every row has its sizes and ranges.
 unfoldable pub tablesHold : Bool
 tablesHold =
-    rising (map prnKey prnRows)
-    && rising (map slotKey slotRows)
+    rising (map prnRowKey prnRows)
+    && rising (map slotRowKey slotRows)
     && every prnFits prnRows
     && every slotFits slotRows
     && every prnSized prnRows

@@ -1,14 +1,14 @@
 -- A supplement as its records, and its test: document 01, refusals 10 to 15.
-use Prim.Native.Nat.{ℕ, zero, suc, _+_, _≤_, _<_}
-use mathlib.Core.Option.{Option}
+use Prim.Native.Nat.{ℕ, zero, suc, _+_, _≤_}
 use mathlib.Core.Path.{_≡_}
 use mathlib.Core.Bool.{true, false, cond}
 use mathlib.Core.List.{List, [], _∷_, _++_, List·Memᴰ}
 use lib.Dec.{eqb, ltb}
 use lib.ListN.{length, take, drop}
-use Rattle.catalogue.specs.Search.{firstWhere}
 use Rattle.catalogue.specs.declared.supplement.Checked.{Checked}
-use Rattle.catalogue.specs.Record.{recordSize, kindOf, keyOf, hasKey, inRange, inSae, fault}
+use Rattle.catalogue.specs.Refusal.{SupplementTooLong}
+use Rattle.catalogue.specs.Kind.{recordSize, known}
+use Rattle.catalogue.specs.Record.{recordKind, keyOf, inRange, inSae, fault}
 
 -- The records one after the other: an unknown kind is one byte, and a record that the end cuts is what there is of it. No record is
 -- empty, so as many turns as bytes are enough.
@@ -20,27 +20,27 @@ recordsIn (suc n) (k ∷ s) = take (recordSize k) (k ∷ s) ∷ recordsIn n (dro
 unfoldable pub recordsOf : List ℕ → List (List ℕ)
 recordsOf s = recordsIn (length s) s
 
--- The first record with a kind and key.
-unfoldable pub recordWith : List ℕ → List ℕ → Option (List ℕ)
-recordWith key s = firstWhere (hasKey key) (recordsOf s)
-
 -- The first record with a fault gives its number and its place.
 unfoldable pub checkFrom : List (List ℕ) → ℕ → List (List ℕ) → Checked
 checkFrom seen at [] = record { refusal = 0; place = 0 }
 checkFrom seen at (r ∷ rs) =
     cond (eqb (fault seen r) 0) (checkFrom (seen ++ r ∷ []) (at + length r) rs) (record { refusal = fault seen r; place = at })
 
+-- "supplement over 16,384 bytes"
+abbrev pub LargestSupplement : ℕ
+LargestSupplement = 16384
+
 unfoldable pub check : List ℕ → Checked
-check s = cond (ltb 16384 (length s)) (record { refusal = 10; place = 0 }) (checkFrom [] 0 (recordsOf s))
+check s = cond (ltb LargestSupplement (length s)) (record { refusal = SupplementTooLong; place = 0 }) (checkFrom [] 0 (recordsOf s))
 
 -- "A frame is accepted if none of the reader's refusals applies to it, a supplement if none of 10 to 15 does."
 abbrev pub Accepted : List ℕ → Type 0
 Accepted s = check s .refusal ≡ 0
 
--- The rules of an accepted supplement, said over its records without an order: each record by itself,
+-- What makes a list of records good, said without an order: each record by itself,
 pub record Sound (r : List ℕ) : Type 0 where
-  pub known : 1 < recordSize (kindOf r)
-  pub whole : length r ≡ recordSize (kindOf r)
+  pub known : known (recordKind r) ≡ true
+  pub whole : length r ≡ recordSize (recordKind r)
   pub range : inRange r ≡ true
   pub new : inSae r ≡ false
 
@@ -49,10 +49,14 @@ abbrev pub Distinct : List (List ℕ) → Type 0
 Distinct [] = Unit {0}
 Distinct (r ∷ rs) = ((q : List ℕ) → List·Memᴰ q rs → keyOf q ≡ keyOf r → ⊥) × Distinct rs
 
-pub record Obeys (s : List ℕ) : Type 0 where
-  pub size : length s ≤ 16384
-  pub each : (r : List ℕ) → List·Memᴰ r (recordsOf s) → Sound r
-  pub keys : Distinct (recordsOf s)
+pub record Good (rs : List (List ℕ)) : Type 0 where
+  pub each : (r : List ℕ) → List·Memᴰ r rs → Sound r
+  pub keys : Distinct rs
+
+-- The rules of an accepted supplement: its size, and its records.
+pub record SupplementObeys (s : List ℕ) : Type 0 where
+  pub size : length s ≤ LargestSupplement
+  pub records : Good (recordsOf s)
 
 -- "A record stands in a supplement if one of the supplement's records has its kind and its body, byte for byte."
 abbrev pub Stands : List ℕ → List ℕ → Type 0
@@ -64,4 +68,4 @@ Among s t = (r : List ℕ) → Stands r s → Stands r t
 
 -- No record is cut by the end.
 abbrev pub Whole : List ℕ → Type 0
-Whole s = (r : List ℕ) → Stands r s → length r ≡ recordSize (kindOf r)
+Whole s = (r : List ℕ) → Stands r s → length r ≡ recordSize (recordKind r)

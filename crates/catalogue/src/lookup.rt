@@ -1,4 +1,9 @@
 // What the SAE tables and a supplement hold together: by PRN, by form, width and number, and by layout key.
+use crate::kind::MOST_PRNS;
+use crate::kind::PRN;
+use crate::kind::SLOT;
+use crate::record::LAYOUT_COUNT;
+use crate::record::LAYOUT_PRNS;
 use crate::record::prn_of;
 use crate::record::slot_of;
 use crate::record::two_at;
@@ -6,33 +11,33 @@ use crate::rows::PrnFound;
 use crate::rows::SlotFound;
 use crate::sae::prn_row;
 use crate::sae::slot_row;
-use crate::supplement::RecordFound;
-use crate::supplement::find_record;
+use crate::supplement::bytes_with;
 use frame::bytes::byte_at;
 ghost use mathlib.Core.Path.{_≡_};
-ghost use mathlib.Core.Option.{none, some};
+ghost use mathlib.Core.Option.{none};
 ghost use Rattle.catalogue.specs.Rows.{prnOf, slotOf};
-ghost use Rattle.catalogue.specs.Record.{prnRow, slotRow, numbers};
-ghost use Rattle.catalogue.specs.Supplement.{recordWith};
-ghost use Rattle.catalogue.specs.Lookup.{prnKey, slotKey, layoutKey, orElse, catalogue, layoutFound};
+ghost use Rattle.catalogue.specs.Record.{recordWith, prnRow, slotRow, layoutPlaces};
+ghost use Rattle.catalogue.specs.Supplement.{recordsOf};
+ghost use Rattle.catalogue.specs.Contracts.{recordIn};
+ghost use Rattle.catalogue.specs.Lookup.{prnKey, slotKey, orRecord, catalogue, layoutFound};
 
 // The PRNs of a layout: as many of the sixteen as the count says, if it was found.
-pub struct Layout {
+pub struct LayoutFound {
     pub found: bool,
     pub count: usize,
-    pub prns: [u16; 16],
+    pub prns: [u16; MOST_PRNS],
 }
 
 // The PRN record of the supplement.
 fn own_prn(s: &[u8], prn: u16) -> PrnFound
-    ensures { λ r. ⌜ prnOf r ≡ orElse none prnRow (recordWith (prnKey prn) (now (s .entry))) ⌝ }
+    ensures { λ r. ⌜ prnOf r ≡ orRecord none prnRow (recordWith (prnKey prn) (recordsOf (now (s .entry)))) ⌝ }
 {
-    let key = [2, (prn / 256) as u8, (prn % 256) as u8];
-    let found = find_record(s, &key);
-    match found {
-        RecordFound::Missing => PrnFound::Missing,
-        RecordFound::At(a, e) => PrnFound::Found(prn_of(&s[a..e])),
+    let key = [PRN, (prn / 256) as u8, (prn % 256) as u8];
+    let bytes = bytes_with(s, &key);
+    if bytes.len() == 0 {
+        return PrnFound::Missing;
     }
+    PrnFound::Found(prn_of(bytes))
 }
 
 // The row of a PRN, whatever the supplement.
@@ -48,14 +53,20 @@ pub fn find_prn(s: &[u8], prn: u16) -> PrnFound
 
 // The SLOT record of the supplement.
 fn own_slot(s: &[u8], form: u8, width: u8, number: u16) -> SlotFound
-    ensures { λ r. ⌜ slotOf r ≡ orElse none slotRow (recordWith (slotKey form width number) (now (s .entry))) ⌝ }
+    ensures { λ r. ⌜ slotOf r ≡ orRecord none slotRow (recordWith (slotKey form width number) (recordsOf (now (s .entry)))) ⌝ }
 {
-    let key = [1, form, width, (number / 256) as u8, (number % 256) as u8];
-    let found = find_record(s, &key);
-    match found {
-        RecordFound::Missing => SlotFound::Missing,
-        RecordFound::At(a, e) => SlotFound::Found(slot_of(&s[a..e])),
+    let key = [
+        SLOT,
+        form,
+        width,
+        (number / 256) as u8,
+        (number % 256) as u8,
+    ];
+    let bytes = bytes_with(s, &key);
+    if bytes.len() == 0 {
+        return SlotFound::Missing;
     }
+    SlotFound::Found(slot_of(bytes))
 }
 
 // The SLOT of a form, width and number, whatever the supplement.
@@ -70,41 +81,39 @@ pub fn find_slot(s: &[u8], form: u8, width: u8, number: u16) -> SlotFound
 }
 
 // The sixteen PRNs of a layout record.
-fn prns_of(bytes: &[u8]) -> [u16; 16]
-    ensures { λ r. ⌜ r ≡ numbers 16 6 (now (bytes .entry)) ⌝ }
+fn prns_of(bytes: &[u8]) -> [u16; MOST_PRNS]
+    ensures { λ r. ⌜ r ≡ layoutPlaces (now (bytes .entry)) ⌝ }
 {
-    let mut prns = [0u16; 16];
-    for i in 0..16usize {
-        prns[i] = two_at(bytes, 6 + i * 2);
+    let mut prns = [0u16; MOST_PRNS];
+    for i in 0..MOST_PRNS {
+        prns[i] = two_at(bytes, LAYOUT_PRNS + i * 2);
     }
     prns
 }
 
-// The layout of a key, whatever the supplement.
-pub fn find_layout(s: &[u8], first: u8, target: u8, present: u8, selector: u8) -> Layout
-    ensures { λ r. ⌜ r ≡ layoutFound (recordWith (layoutKey first target present selector) (now (s .entry))) ⌝ }
+// The layout of a kind and key, whatever the supplement.
+pub fn find_layout(s: &[u8], key: &[u8]) -> LayoutFound
+    ensures { λ r. ⌜ r ≡ layoutFound (recordWith (now (key .entry)) (recordsOf (now (s .entry)))) ⌝ }
 {
-    let key = [3, first, target, present, selector];
-    let found = find_record(s, &key);
-    match found {
-        RecordFound::Missing => Layout {
-            found: false,
-            count: 0,
-            prns: [0; 16],
-        },
-        RecordFound::At(a, e) => layout_of(&s[a..e]),
-    }
+    layout_of(bytes_with(s, key))
 }
 
-// The layout of a record.
-fn layout_of(bytes: &[u8]) -> Layout
-    ensures { λ r. ⌜ r ≡ layoutFound (some (now (bytes .entry))) ⌝ }
+// The layout of a record, if the bytes are one.
+fn layout_of(bytes: &[u8]) -> LayoutFound
+    ensures { λ r. ⌜ r ≡ layoutFound (recordIn (now (bytes .entry))) ⌝ }
 {
-    let count = byte_at(bytes, 5) as usize;
+    if bytes.len() == 0 {
+        return LayoutFound {
+            found: false,
+            count: 0,
+            prns: [0; MOST_PRNS],
+        };
+    }
+    let count = byte_at(bytes, LAYOUT_COUNT) as usize;
     let prns = prns_of(bytes);
-    Layout {
+    LayoutFound {
         found: true,
-        count: if count < 16 { count } else { 16 },
+        count: if count < MOST_PRNS { count } else { MOST_PRNS },
         prns,
     }
 }

@@ -1,4 +1,8 @@
-// A record of a supplement: its size, its key and its fields.
+// A record of a supplement: its key and its fields.
+use crate::kind::LAYOUT;
+use crate::kind::MOST_PRNS;
+use crate::kind::PRN;
+use crate::kind::SLOT;
 use crate::rows::PrnRow;
 use crate::rows::SlotRow;
 use crate::rows::prn_fits;
@@ -9,31 +13,21 @@ use frame::bytes::byte_at;
 ghost use mathlib.Core.Path.{_≡_};
 ghost use Prim.Native.Nat.{_<_};
 ghost use lib.ListN.{drop};
-ghost use Rattle.catalogue.specs.Record.{recordSize, keySize, hasKey, two, four, slotRow, prnRow, allZero, headerFits, selectorFits, layoutFits, inRange, inSae};
+ghost use Rattle.catalogue.specs.Record.{hasKey, two, four, slotRow, prnRow, allZero, headerFits, selectorFits, layoutFits, inRange, inSae};
 
-// Bytes of a record by its kind; an unknown kind is one byte.
-pub(crate) fn record_size(kind: u8) -> usize
-    ensures { λ r. ⌜ r ≡ recordSize kind ⌝ }
-{
-    match kind {
-        1 => 21,
-        2 => 7,
-        3 => 38,
-        _ => 1,
-    }
-}
+// Where the fields of a SLOT's key and of a PRN's stand.
+const SLOT_FORM: usize = 1;
 
-// Bytes of kind and key together.
-pub(crate) fn key_size(kind: u8) -> usize
-    ensures { λ r. ⌜ r ≡ keySize kind ⌝ }
-{
-    match kind {
-        1 => 5,
-        2 => 3,
-        3 => 5,
-        _ => 0,
-    }
-}
+const SLOT_WIDTH: usize = 2;
+
+const SLOT_NUMBER: usize = 3;
+
+const PRN_NUMBER: usize = 1;
+
+// Where a layout's count stands, and where its PRNs begin.
+pub(crate) const LAYOUT_COUNT: usize = 5;
+
+pub(crate) const LAYOUT_PRNS: usize = 6;
 
 pub(crate) fn two_at(bytes: &[u8], i: usize) -> u16
     requires { ⌜ i < 64 ⌝ }
@@ -59,9 +53,9 @@ pub(crate) fn slot_of(bytes: &[u8]) -> SlotRow
     ensures { λ r. ⌜ r ≡ slotRow (now (bytes .entry)) ⌝ }
 {
     SlotRow {
-        form: byte_at(bytes, 1),
-        width: byte_at(bytes, 2),
-        number: two_at(bytes, 3),
+        form: byte_at(bytes, SLOT_FORM),
+        width: byte_at(bytes, SLOT_WIDTH),
+        number: two_at(bytes, SLOT_NUMBER),
         multiplier: two_at(bytes, 5),
         divisor: two_at(bytes, 7),
         offset: four_at(bytes, 9),
@@ -74,7 +68,7 @@ pub(crate) fn prn_of(bytes: &[u8]) -> PrnRow
     ensures { λ r. ⌜ r ≡ prnRow (now (bytes .entry)) ⌝ }
 {
     PrnRow {
-        prn: two_at(bytes, 1),
+        prn: two_at(bytes, PRN_NUMBER),
         form: byte_at(bytes, 3),
         width: byte_at(bytes, 4),
         slot: two_at(bytes, 5),
@@ -148,37 +142,44 @@ fn layout_fits(bytes: &[u8]) -> bool
     if !selector_fits(byte_at(bytes, 3), byte_at(bytes, 4)) {
         return false;
     }
-    let count = byte_at(bytes, 5);
-    if 16 < count {
+    let count = byte_at(bytes, LAYOUT_COUNT) as usize;
+    if MOST_PRNS < count {
         return false;
     }
-    all_zero(bytes, 6 + count as usize * 2)
+    all_zero(bytes, LAYOUT_PRNS + count * 2)
 }
 
-// Whether every field is in its range.
+// Whether every field is in its range; nothing of an unknown kind is.
 pub(crate) fn in_range(bytes: &[u8]) -> bool
     ensures { λ r. ⌜ r ≡ inRange (now (bytes .entry)) ⌝ }
 {
     let kind = byte_at(bytes, 0);
-    if kind == 1 {
+    if kind == SLOT {
         return slot_fits(slot_of(bytes));
     }
-    if kind == 2 {
+    if kind == PRN {
         return prn_fits(prn_of(bytes));
     }
-    layout_fits(bytes)
+    if kind == LAYOUT {
+        return layout_fits(bytes);
+    }
+    false
 }
 
-// Whether the key is in the SAE tables.
+// Whether the key is in the SAE tables, which have SLOTs and PRNs. Only the key is read: to read the whole row takes longer.
 pub(crate) fn in_sae(bytes: &[u8]) -> bool
     ensures { λ r. ⌜ r ≡ inSae (now (bytes .entry)) ⌝ }
 {
     let kind = byte_at(bytes, 0);
-    if kind == 1 {
-        return has_slot(byte_at(bytes, 1), byte_at(bytes, 2), two_at(bytes, 3));
+    if kind == SLOT {
+        return has_slot(
+            byte_at(bytes, SLOT_FORM),
+            byte_at(bytes, SLOT_WIDTH),
+            two_at(bytes, SLOT_NUMBER),
+        );
     }
-    if kind == 2 {
-        return has_prn(two_at(bytes, 1));
+    if kind == PRN {
+        return has_prn(two_at(bytes, PRN_NUMBER));
     }
     false
 }

@@ -3,6 +3,28 @@ ghost use mathlib.Core.Path.{_≡_};
 ghost use Prim.Native.Nat.{_+_, _%_, _^_};
 ghost use Rattle.catalogue.specs.Rows.{keyFits, inOrder, prnFits, slotFits};
 
+// The forms.
+pub const UNM: u8 = 1;
+
+pub const SNM: u8 = 2;
+
+pub const SED: u8 = 3;
+
+pub const BMP: u8 = 4;
+
+pub const ASC: u8 = 5;
+
+pub const BCD: u8 = 6;
+
+pub const BMM: u8 = 7;
+
+pub const SFP: u8 = 8;
+
+pub const PKT: u8 = 9;
+
+// The most bits of an item.
+const WIDEST: u8 = 64;
+
 // A PRN with the form, width and number of its SLOT.
 pub struct PrnRow {
     pub prn: u16,
@@ -33,20 +55,20 @@ pub enum SlotFound {
     Found(SlotRow),
 }
 
-// Form 1 to 9 and width 1 to 64.
+// Whether form and width are in range.
 fn key_fits(form: u8, width: u8) -> bool
     ensures { λ r. ⌜ r ≡ keyFits form width ⌝ }
 {
-    if form < 1 {
+    if form < UNM {
         return false;
     }
-    if 9 < form {
+    if PKT < form {
         return false;
     }
     if width < 1 {
         return false;
     }
-    width <= 64
+    width <= WIDEST
 }
 
 // A pattern moved up by half of its range, so that signed order is the order of numbers.
@@ -60,7 +82,7 @@ fn raised(pattern: u32) -> u64
 pub fn in_order(form: u8, lowest: u32, highest: u32) -> bool
     ensures { λ r. ⌜ r ≡ inOrder form lowest highest ⌝ }
 {
-    if form == 2 {
+    if form == SNM {
         raised(lowest) <= raised(highest)
     } else {
         lowest <= highest

@@ -5,14 +5,26 @@ use crate::rows::SlotFound;
 use crate::rows::SlotRow;
 use crate::search::place_of;
 use crate::tables;
+use crate::tables::PRNS_A_PART;
+use crate::tables::SLOTS_A_PART;
 ghost use mathlib.Core.Path.{_≡_};
 ghost use Rattle.catalogue.specs.Rows.{prnOf, slotOf};
 ghost use Rattle.catalogue.specs.Search.{isFound};
 ghost use Rattle.catalogue.specs.Sae.{saePrn, saeSlot};
 ghost use Rattle.catalogue.specs.Contracts.{PrnPart, SlotPart};
 
+// Where the columns of a part of the SLOT rows begin.
+const OFFSETS: usize = 2 * SLOTS_A_PART;
+
+const LOWEST: usize = 3 * SLOTS_A_PART;
+
+const HIGHEST: usize = 4 * SLOTS_A_PART;
+
+// SAE numbers its SLOTs no higher.
+const HIGHEST_NUMBER: u16 = 255;
+
 // The part of the table that has a PRN if any has. A constant array is built where it is named, so it is the only part built.
-fn prn_part(prn: u16) -> [u32; 22]
+fn prn_part(prn: u16) -> [u32; 2 * PRNS_A_PART]
     ensures { λ r. ⌜ PrnPart prn r ⌝ }
 {
     match prn {
@@ -48,7 +60,7 @@ fn prn_part(prn: u16) -> [u32; 22]
 }
 
 // The same for the key of a SLOT.
-fn slot_part(key: u32) -> [u32; 25]
+fn slot_part(key: u32) -> [u32; 5 * SLOTS_A_PART]
     ensures { λ r. ⌜ SlotPart key r ⌝ }
 {
     match key {
@@ -90,9 +102,9 @@ pub(crate) fn prn_row(prn: u16) -> PrnFound
     ensures { λ r. ⌜ prnOf r ≡ saePrn prn ⌝ }
 {
     let rows = prn_part(prn);
-    let at = place_of(&rows[..11], prn as u32);
-    if at < 11 {
-        let slot = rows[11 + at];
+    let at = place_of(&rows[..PRNS_A_PART], prn as u32);
+    if at < PRNS_A_PART {
+        let slot = rows[PRNS_A_PART + at];
         PrnFound::Found(PrnRow {
             prn,
             form: (slot >> 24) as u8,
@@ -108,24 +120,23 @@ pub(crate) fn prn_row(prn: u16) -> PrnFound
 pub(crate) fn slot_row(form: u8, width: u8, number: u16) -> SlotFound
     ensures { λ r. ⌜ slotOf r ≡ saeSlot form width number ⌝ }
 {
-    // SAE numbers its SLOTs below 256: a higher number needs no search.
-    if 255 < number {
+    if HIGHEST_NUMBER < number {
         return SlotFound::Missing;
     }
     let key = (form as u32) * 0x100_0000 + (width as u32) * 0x1_0000 + number as u32;
     let rows = slot_part(key);
-    let at = place_of(&rows[..5], key);
-    if at < 5 {
-        let scale = rows[5 + at];
+    let at = place_of(&rows[..SLOTS_A_PART], key);
+    if at < SLOTS_A_PART {
+        let scale = rows[SLOTS_A_PART + at];
         SlotFound::Found(SlotRow {
             form,
             width,
             number,
             multiplier: (scale >> 16) as u16,
             divisor: (scale % 0x1_0000) as u16,
-            offset: rows[10 + at],
-            lowest: rows[15 + at],
-            highest: rows[20 + at],
+            offset: rows[OFFSETS + at],
+            lowest: rows[LOWEST + at],
+            highest: rows[HIGHEST + at],
         })
     } else {
         SlotFound::Missing

@@ -2,26 +2,25 @@
 use mathlib.Core.Path.{_≡_, refl, sym, ap, _∙_, subst}
 use mathlib.Core.Logic.{_↔_, _⊎_, inl, inr, ⊎-elim}
 use mathlib.Core.Bool.{true, false, true≢false}
-use mathlib.Core.List.{List, [], _∷_, _++_, List·Memᴰ, List·Memᴰ·append-cases, List·Memᴰ·eq-of-singleton, List·Memᴰ·head, Memᴰ·append-left, Memᴰ·append-right}
+use mathlib.Core.List.{List, [], _∷_, _++_}
 use mathlib.Core.Option.{Option, none, some}
 use Prim.Native.Nat.{ℕ, zero, suc}
 use native.Mathlib.Omega.{arith}
-use lib.Dec.{eqb}
-use lib.ListN.{length, getD, getElem?}
+use lib.ListN.{getElem?}
 use Rattle.frame.specs.Frame.{Parts}
-use Rattle.frame.specs.Refusal.{accepted}
-use Rattle.frame.specs.Reader.{readFrame}
-use Rattle.frame.proofs.bytes.Laws.{cases}
+use Rattle.catalogue.specs.Record.{LayoutRow, FullKey}
 use Rattle.catalogue.specs.Supplement.{Accepted, Among}
 use Rattle.catalogue.specs.Lookup.{Catalogue, Within, catalogue}
-use Rattle.catalogue.proofs.WithinLaws.{within}
+use Rattle.catalogue.proofs.lookup.Laws.{layout-key-full}
+use Rattle.catalogue.proofs.Within.{supplement-within}
 use Rattle.report.specs.declared.line.Line.{Line}
-use Rattle.report.specs.declared.items.Place.the-variants.{Bit}
-use Rattle.report.specs.Report.{Message, messageOf, Group, layoutSought, itemsOf, groupOf, responseLine, reportOf, groupLines, linesOf, isUnknown, verdict}
+use Rattle.report.specs.Line.{isUnknown}
+use Rattle.report.specs.Report.{Message, Group, Report, groupLines, reportOf, linesOf, verdict}
 use Rattle.report.specs.Rows.{row}
-use Rattle.report.specs.Demand.{Name, item, remainder, response, lineIn, remainderIn, lineAt, under, Keeps}
-use Rattle.report.proofs.KeptLaws.{Kept, AllKept, items-kept, place-same, remainder-kept}
-use Rattle.report.proofs.VerdictLaws.{Covered, any-of, kept-covered, verdict-clear, verdict-flagged}
+use Rattle.report.specs.Answer.{under}
+use Rattle.report.specs.Demand.{Name, item, remainder, response, itemIn, remainderIn, layoutIn, lineAt, Lacks, Keeps}
+use Rattle.report.proofs.demand.Kept.{AllWith, Kept, GroupKept, groups-kept}
+use Rattle.report.proofs.demand.Covered.{Covered, covered-append, covered-same, groups-covered, verdict-clear, verdict-flagged}
 
 none-some : {A : Type 0} {a : A} → none ≡ some a → ⊥
 none-some e = let z : _≡_ {A = ℕ} 0 1 = cc in omega arith
@@ -29,170 +28,118 @@ none-some e = let z : _≡_ {A = ℕ} 0 1 = cc in omega arith
 some-is : {A : Type 0} {a b : A} → some a ≡ some b → a ≡ b
 some-is e = cc
 
--- A group under the smaller catalogue: its remainder kept, and its lines kept, or none of them for want of a layout.
-pub record GroupKept (o : Option (List ℕ)) (g h : Group) : Type 0 where
-  pub remainder : Kept (g .remainder) (h .remainder)
-  pub lines :
-      (AllKept (g .lines) (h .lines) × (o ≡ none → ⊥))
-      ⊎ ((g .lines ≡ []) × (o ≡ none) × (isUnknown (g .remainder) ≡ true))
+-- A line of the first report against its namesake of the second: both, the first kept; neither; or the second alone, where it may be.
+abbrev Against : Type 0 → Option Line → Option Line → Type 0
+Against gone none none = Unit {0}
+Against gone none (some l) = gone
+Against gone (some k) none = ⊥
+Against gone (some k) (some l) = Kept k l × (gone → ⊥)
 
-module _ (c d : Catalogue) (w : Within c d) where
-  sought-within : (m : Message) (prns : List ℕ) → layoutSought c m ≡ some prns → layoutSought d m ≡ some prns
-  unfolding layoutSought
-  sought-within m prns e =
-      cases (eqb (length (m .body)) 0)
-      (λ t. rw t (w .layout (m .first) (m .target) 0 0 prns (sym (rw t) ∙ e)))
-      (λ f. rw f (w .layout (m .first) (m .target) 1 (getD (m .body) 0 0) prns (sym (rw f) ∙ e)))
+module _ (gone : Type 0) where
+  shown-same : (o q : Option Line) → Against gone o q → (l : Line) → o ≡ some l → isUnknown l ≡ false → q ≡ some l
+  shown-same none q a l e u = absurd (none-some e)
+  shown-same (some k) none a l e u = absurd a
+  shown-same (some k) (some m) a l e u =
+      let h : k ≡ l = some-is e in
+      ⊎-elim (λ g. ap some (sym g ∙ h)) (λ v. absurd (true≢false (sym v ∙ ap isUnknown h ∙ u))) (a .0)
 
-  group-kept :
-      (items : List ℕ) (o q : Option (List ℕ)) → ((prns : List ℕ) → o ≡ some prns → q ≡ some prns) → GroupKept o (groupOf c items o) (groupOf d items q)
-  unfolding groupOf
-  group-kept items none q u = record { remainder = inr refl; lines = inr (refl, refl, refl) }
-  group-kept items (some prns) q u =
-      subst (λ (p : Option (List ℕ)). GroupKept (some prns) (groupOf c items (some prns)) (groupOf d items p)) (sym (u prns refl))
-      (record {
-        remainder = remainder-kept items _ _ (place-same c d w items prns (Bit 0) (Bit 0) (inl refl));
-        lines = inl (items-kept c d w items prns (Bit 0) (Bit 0) (inl refl), λ e. let z : _≡_ {A = ℕ} 0 1 = cc in omega arith);
-      })
+  taken-from :
+      (o q : Option Line)
+      → Against gone o q
+      → (l : Line)
+      → q ≡ some l
+      → (o ≡ some l) ⊎ (((k : Line) × (o ≡ some k) × (isUnknown k ≡ true)) ⊎ (o ≡ none))
+  taken-from none q a l e = inr (inr refl)
+  taken-from (some k) none a l e = absurd a
+  taken-from (some k) (some m) a l e = ⊎-elim (λ g. inl (ap some g ∙ e)) (λ v. inr (inl (k, refl, v))) (a .0)
 
--- Kept lines by their number, from either side.
-kept-at :
-    (ls ms : List Line) → AllKept ls ms → (i : ℕ) (l : Line) → getElem? ls i ≡ some l → (k : Line) × (getElem? ms i ≡ some k) × Kept l k
-kept-at [] [] a i l e = absurd (let z : _≡_ {A = ℕ} 0 1 = cc in omega arith)
-kept-at [] (m ∷ ms) a i l e = absurd a
-kept-at (x ∷ ls) [] a i l e = absurd a
-kept-at (x ∷ ls) (m ∷ ms) a zero l e = let h : x ≡ l = cc in (m, refl, subst (λ (y : Line). Kept y m) h (a .0))
-kept-at (x ∷ ls) (m ∷ ms) a (suc i) l e = kept-at ls ms (a .1) i l e
+  missing-when : (o q : Option Line) → Against gone o q → (l : Line) → q ≡ some l → (o ≡ none) ↔ gone
+  missing-when none none a l e = absurd (none-some e)
+  missing-when none (some m) a l e = (λ h. a, λ g. refl)
+  missing-when (some k) none a l e = absurd a
+  missing-when (some k) (some m) a l e = (λ h. absurd (none-some (sym h)), λ g. absurd (a .1 g))
 
-kept-back :
-    (ls ms : List Line) → AllKept ls ms → (i : ℕ) (l : Line) → getElem? ms i ≡ some l → (k : Line) × (getElem? ls i ≡ some k) × Kept k l
-kept-back [] [] a i l e = absurd (let z : _≡_ {A = ℕ} 0 1 = cc in omega arith)
-kept-back [] (m ∷ ms) a i l e = absurd a
-kept-back (x ∷ ls) [] a i l e = absurd a
-kept-back (x ∷ ls) (m ∷ ms) a zero l e = let h : m ≡ l = cc in (x, refl, subst (Kept x) h (a .0))
-kept-back (x ∷ ls) (m ∷ ms) a (suc i) l e = kept-back ls ms (a .1) i l e
+  -- Items that are kept one by one, and items that are gone.
+  items-against : (gone → ⊥) → (ls ms : List Line) → AllWith Kept ls ms → (i : ℕ) → Against gone (getElem? ls i) (getElem? ms i)
+  items-against n [] [] k i = tt
+  items-against n [] (m ∷ ms) k i = absurd k
+  items-against n (l ∷ ls) [] k i = absurd k
+  items-against n (l ∷ ls) (m ∷ ms) k zero = (k .0, n)
+  items-against n (l ∷ ls) (m ∷ ms) k (suc i) = items-against n ls ms (k .1) i
 
-kept-append : (ls ms : List Line) → AllKept ls ms → (x y : Line) → Kept x y → AllKept (ls ++ x ∷ []) (ms ++ y ∷ [])
-kept-append [] [] a x y k = (k, tt)
-kept-append [] (m ∷ ms) a x y k = absurd a
-kept-append (l ∷ ls) [] a x y k = absurd a
-kept-append (l ∷ ls) (m ∷ ms) a x y k = (a .0, kept-append ls ms (a .1) x y k)
+  gone-against : gone → (q : Option Line) → Against gone none q
+  gone-against g none = tt
+  gone-against g (some l) = g
 
--- The lines of a report of one group.
-group-covered : (o : Option (List ℕ)) (g h : Group) (r : Line) → GroupKept o g h → Covered ((g .lines ++ g .remainder ∷ []) ++ r ∷ []) ((h .lines ++ h .remainder ∷ []) ++ r ∷ [])
-group-covered o g h r k =
-    ⊎-elim
+-- Two groups of the same number: both, the first kept; or neither.
+abbrev GroupsAt : Option Group → Option Group → Type 0
+GroupsAt none none = Unit {0}
+GroupsAt none (some h) = ⊥
+GroupsAt (some g) none = ⊥
+GroupsAt (some g) (some h) = GroupKept g h
+
+groups-at : (gs hs : List Group) → AllWith GroupKept gs hs → (n : ℕ) → GroupsAt (getElem? gs n) (getElem? hs n)
+groups-at [] [] k n = tt
+groups-at [] (h ∷ hs) k n = absurd k
+groups-at (g ∷ gs) [] k n = absurd k
+groups-at (g ∷ gs) (h ∷ hs) k zero = k .0
+groups-at (g ∷ gs) (h ∷ hs) k (suc n) = groups-at gs hs (k .1) n
+
+item-against : (a b : Option Group) → GroupsAt a b → (i : ℕ) → Against (layoutIn a ≡ none) (itemIn a i) (itemIn b i)
+unfolding layoutIn itemIn
+item-against none none k i = tt
+item-against none (some h) k i = absurd k
+item-against (some g) none k i = absurd k
+item-against (some g) (some h) k i =
+    ⊎-elim (λ a. items-against (g .layout ≡ none) (a .1) (g .items) (h .items) (a .0) i)
     (λ a.
-    kept-covered _ _
-    (kept-append (g .lines ++ g .remainder ∷ []) (h .lines ++ h .remainder ∷ []) (kept-append (g .lines) (h .lines) (a .0) (g .remainder) (h .remainder) (k .remainder)) r r (inl refl)))
-    (λ a.
-    record {
-      among =
-          λ l m.
-          ⊎-elim
-          (λ n.
-          let first : List·Memᴰ l ([] ++ g .remainder ∷ []) = subst (λ (ls : List Line). List·Memᴰ l (ls ++ g .remainder ∷ [])) (a .0) n in
-          inl (ap isUnknown (List·Memᴰ·eq-of-singleton first) ∙ a .2))
-          (λ n. inr (Memᴰ·append-right (h .lines ++ h .remainder ∷ []) n))
-          (List·Memᴰ·append-cases (g .lines ++ g .remainder ∷ []) m);
-      same = λ e. absurd (true≢false (sym (any-of isUnknown _ (g .remainder) (unknown-in (g .lines) (g .remainder) r) (a .2)) ∙ e));
-    })
-    (k .lines)
-  where
-    unknown-in : (ls : List Line) (x y : Line) → List·Memᴰ x ((ls ++ x ∷ []) ++ y ∷ [])
-    unknown-in ls x y = Memᴰ·append-left (y ∷ []) (Memᴰ·append-right ls (List·Memᴰ·head refl))
+    subst (λ (ls : List Line). Against (g .layout ≡ none) (getElem? ls i) (getElem? (h .items) i)) (sym (a .0))
+    (gone-against (g .layout ≡ none) (a .1) (getElem? (h .items) i)))
+    (k .items)
 
--- The one group of a message's report under a supplement.
-abbrev groupUnder : List ℕ → Message → Group
-groupUnder s m = groupOf (catalogue s) (itemsOf m) (layoutSought (catalogue s) m)
+remainder-against : (a b : Option Group) → GroupsAt a b → Against ⊥ (remainderIn a) (remainderIn b)
+unfolding remainderIn
+remainder-against none none k = tt
+remainder-against none (some h) k = absurd k
+remainder-against (some g) none k = absurd k
+remainder-against (some g) (some h) k = (k .remainder, λ e. e)
 
-module _ (m : Message) (s t : List ℕ) (w : Within (catalogue s) (catalogue t)) where
-  kept : GroupKept (layoutSought (catalogue s) m) (groupUnder s m) (groupUnder t m)
-  kept = group-kept (catalogue s) (catalogue t) w (itemsOf m) (layoutSought (catalogue s) m) (layoutSought (catalogue t) m) (sought-within (catalogue s) (catalogue t) w m)
+-- Two reports whose groups are kept and whose response is the same.
+module _ (old new : Report) (kept : AllWith GroupKept (old .groups) (new .groups)) (same : old .response ≡ new .response) where
+  against : (n : Name) → Against (Lacks old n) (lineAt old n) (lineAt new n)
+  unfolding lineAt Lacks
+  against (item g i) = item-against _ _ (groups-at (old .groups) (new .groups) kept g) i
+  against (remainder g) = remainder-against _ _ (groups-at (old .groups) (new .groups) kept g)
+  against response = (inl same, λ e. e)
 
-  covered : Covered (linesOf (under s m)) (linesOf (under t m))
-  unfolding linesOf groupLines reportOf
-  covered = group-covered (layoutSought (catalogue s) m) (groupUnder s m) (groupUnder t m) (responseLine (m .kind)) kept
+  covered : Covered (linesOf old) (linesOf new)
+  unfolding linesOf
+  covered =
+      covered-append (groupLines (old .groups)) (groupLines (new .groups)) (old .response ∷ []) (new .response ∷ [])
+      (groups-covered (old .groups) (new .groups) kept)
+      (subst (λ (l : Line). Covered (old .response ∷ []) (l ∷ [])) same (covered-same (old .response ∷ [])))
 
-  shown-kept : (n : Name) (l : Line) → lineAt (under s m) n ≡ some l → isUnknown l ≡ false → lineAt (under t m) n ≡ some l
-  unfolding lineAt lineIn remainderIn reportOf
-  shown-kept (item zero i) l e u =
-      ⊎-elim
-      (λ a.
-      let k = kept-at (groupUnder s m .lines) (groupUnder t m .lines) (a .0) i l e in
-      ⊎-elim (λ h. k .1 ∙ ap some (sym h)) (λ v. absurd (true≢false (sym v ∙ u))) (k .2))
-      (λ a. absurd (none-some (sym (ap (λ (ls : List Line). getElem? ls i) (a .0)) ∙ e)))
-      (kept .lines)
-  shown-kept (item (suc g) i) l e u = absurd (none-some e)
-  shown-kept (remainder zero) l e u =
-      let h = some-is e in
-      ⊎-elim (λ k. ap some (sym k ∙ h)) (λ v. absurd (true≢false (sym v ∙ ap isUnknown h ∙ u))) (kept .remainder)
-  shown-kept (remainder (suc g)) l e u = absurd (none-some e)
-  shown-kept response l e u = e
-
-  taken-kept :
-      (n : Name) (l : Line)
-      → lineAt (under t m) n ≡ some l
-      → (lineAt (under s m) n ≡ some l) ⊎ (((k : Line) × (lineAt (under s m) n ≡ some k) × (isUnknown k ≡ true)) ⊎ (lineAt (under s m) n ≡ none))
-  unfolding lineAt lineIn remainderIn reportOf
-  taken-kept (item zero i) l e =
-      ⊎-elim
-      (λ a.
-      let k = kept-back (groupUnder s m .lines) (groupUnder t m .lines) (a .0) i l e in
-      ⊎-elim (λ h. inl (k .1 ∙ ap some h)) (λ v. inr (inl (k .0, k .1, v))) (k .2))
-      (λ a. inr (inr (ap (λ (ls : List Line). getElem? ls i) (a .0))))
-      (kept .lines)
-  taken-kept (item (suc g) i) l e = absurd (none-some e)
-  taken-kept (remainder zero) l e =
-      ⊎-elim (λ k. inl (ap some (k ∙ some-is e))) (λ v. inr (inl (_, refl, v))) (kept .remainder)
-  taken-kept (remainder (suc g)) l e = absurd (none-some e)
-  taken-kept response l e = inl e
-
-  remainders-kept : (g : ℕ) (l : Line) → lineAt (under t m) (remainder g) ≡ some l → lineAt (under s m) (remainder g) ≡ none → ⊥
-  unfolding lineAt remainderIn reportOf
-  remainders-kept zero l e f = none-some (sym f)
-  remainders-kept (suc g) l e f = none-some e
-
-  responses-kept : lineAt (under s m) response ≡ none → ⊥
-  unfolding lineAt
-  responses-kept f = none-some (sym f)
-
-  missing-kept :
-      (g i : ℕ) (l : Line)
-      → lineAt (under t m) (item g i) ≡ some l
-      → (lineAt (under s m) (item g i) ≡ none) ↔ (layoutSought (catalogue s) m ≡ none)
-  unfolding lineAt lineIn reportOf
-  missing-kept zero i l e =
-      ⊎-elim
-      (λ a.
-      let k = kept-back (groupUnder s m .lines) (groupUnder t m .lines) (a .0) i l e in
-      (λ f. absurd (none-some (sym f ∙ k .1)), λ f. absurd (a .1 f)))
-      (λ a. (λ f. a .1, λ f. ap (λ (ls : List Line). getElem? ls i) (a .0)))
-      (kept .lines)
-  missing-kept (suc g) i l e = absurd (none-some e)
-
-  keeps : Keeps m s t
+  reports-keep : Keeps old new
   unfolding verdict
-  keeps =
+  reports-keep =
+      let shown : (n : Name) (l : Line) → lineAt old n ≡ some l → isUnknown l ≡ false → lineAt new n ≡ some l =
+      λ n. shown-same (Lacks old n) (lineAt old n) (lineAt new n) (against n) in
       record {
-        shown = shown-kept;
+        shown = shown;
         clear = verdict-clear _ _ covered;
         flagged = verdict-flagged _ _ covered;
-        taken = taken-kept;
-        remainders = remainders-kept;
-        responses = responses-kept;
-        missing = missing-kept;
+        taken = λ n. taken-from (Lacks old n) (lineAt old n) (lineAt new n) (against n);
+        missing = λ n. missing-when (Lacks old n) (lineAt old n) (lineAt new n) (against n);
         not-clear = λ n e. n (verdict-clear _ _ covered e);
-        rows = λ n l k e u f. ap row (some-is (sym (shown-kept n l e u) ∙ f));
+        rows = λ n l k e u f. ap row (some-is (sym (shown n l e u) ∙ f));
       }
 
+-- Demand 3 for one message and two catalogues, whatever the first finds the second finding the same.
+pub keeps : (c d : Catalogue) → Within c d → (m : Message) → FullKey (m .key) → Keeps (reportOf c m) (reportOf d m)
+unfolding reportOf
+keeps c d w m full =
+    reports-keep (reportOf c m) (reportOf d m) (groups-kept c d w (c .layout (m .key)) (d .layout (m .key)) (w .layout (m .key) full) (m .parts)) refl
+
 -- "Take any accepted frame and two accepted supplements, every record of the first standing in the second too."
-pub demand-three :
-    (before after : List ℕ) (p : Parts)
-    → readFrame before after ≡ accepted p
-    → (s t : List ℕ)
-    → Accepted s
-    → Accepted t
-    → Among s t
-    → Keeps (messageOf p) s t
-demand-three before after p e s t a b among = keeps (messageOf p) s t (within s t b among)
+pub demand-three : (p : Parts) (s t : List ℕ) → Accepted s → Accepted t → Among s t → Keeps (under s p) (under t p)
+demand-three p s t a b among = keeps (catalogue s) (catalogue t) (supplement-within s t b among) _ (layout-key-full _ _ _ _)

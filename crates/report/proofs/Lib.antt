@@ -1,13 +1,7 @@
--- Laws that belong to no one function.
-pub mod KeptLaws
-pub mod VerdictLaws
+pub mod demand
+pub mod NoNan
+pub mod Left
+pub mod Judged
+pub mod Size
 pub mod DemandThree
-pub mod BitsLaws
-pub mod ScalingLaws
-pub mod ItemLaws
-pub mod RowsLaws
-pub mod AnswerLaws
-pub mod SizeLaws
-pub mod LeftLaws
 pub mod TwoCalls
-pub mod TallyLaws

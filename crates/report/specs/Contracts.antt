@@ -1,26 +1,46 @@
--- What only inner functions cite: places within the items, lines in an array, numbers that are no NaN, what lines add up to. No public
+-- What only inner functions cite: places within a window, lines in an array, numbers that are no NaN, what lines add up to. No public
 -- contract reaches here.
-use Prim.Native.Nat.{ℕ, _+_, _*_, _≤_}
+use Prim.Native.Nat.{ℕ, _+_, _≤_, _<_}
 use mathlib.Core.Path.{_≡_}
 use mathlib.Core.Bool.{false, _||_}
 use mathlib.Core.List.{List, [], _∷_, _++_, map}
 use lib.ListN.{length, take}
 use lib.Ieee.{isNan}
-use Rattle.report.specs.declared.items.Place.{Place}
-use Rattle.report.specs.declared.items.Place.the-variants.{Bit, Lost, Past}
+use Rattle.catalogue.specs.Record.{MostPrns}
+use Rattle.report.specs.declared.spots.Place.{Place}
+use Rattle.report.specs.declared.spots.Place.the-variants.{Bit, Lost, Past}
+use Rattle.report.specs.declared.spots.Spot.{Spot}
+use Rattle.report.specs.declared.spots.Spot.the-variants.{Astray, Beyond, Rowless, Over, Lies}
 use Rattle.report.specs.declared.line.Line.{Line}
 use Rattle.report.specs.declared.line.Held.{Held}
 use Rattle.report.specs.declared.line.Line.the-variants.{Number, State, Bits, Text, Digits, Invalid, Short, Unknown, Left, Answered}
-use Rattle.report.specs.declared.message.Report.{Report}
+use Rattle.report.specs.declared.lines.Report.{Report}
 use Rattle.report.specs.declared.tally.Tally.{Tally}
-use Rattle.report.specs.Report.{isFlagged, isUnknown, any}
+use Rattle.report.specs.Line.{isFlagged, isUnknown}
+use Rattle.report.specs.Verdict.{any}
 use Rattle.report.specs.Rows.{row, rowsOf}
 
--- A place that lies within the items.
-abbrev pub Inside : List ℕ → Place → Type 0
-Inside items (Bit at) = at ≤ 8 * length items
-Inside items Lost = Unit {0}
-Inside items Past = Unit {0}
+-- A report has at most as many lines: the items, a remainder and a response.
+abbrev pub MostLines : ℕ
+MostLines = MostPrns + 2
+
+-- A window ends at this bit at the latest: what is left of it is counted in a byte.
+abbrev pub MostBits : ℕ
+MostBits = 255
+
+-- A place that is not behind the bit where items end.
+abbrev pub Inside : ℕ → Place → Type 0
+Inside to (Bit at) = at ≤ to
+Inside to Lost = Unit {0}
+Inside to Past = Unit {0}
+
+-- An item that lies somewhere has a width, and lies within so many bits.
+abbrev pub Lying : ℕ → Spot → Type 0
+Lying to Astray = Unit {0}
+Lying to Beyond = Unit {0}
+Lying to Rowless = Unit {0}
+Lying to Over = Unit {0}
+Lying to (Lies row at) = (1 ≤ row .width) × (at + row .width ≤ to)
 
 -- A value, where a line has one, is no NaN.
 abbrev pub holdsNumber : Line → Type 0
@@ -39,22 +59,26 @@ unfoldable pub allHold : List Line → Type 0
 allHold [] = Unit {0}
 allHold (l ∷ ls) = holdsNumber l × allHold ls
 
--- The first lines of an array.
+-- What one line and what some lines add up to.
+abbrev pub weight : Line → Tally
+weight l = record { flagged = isFlagged l; unknown = isUnknown l; size = length (row l) }
+
+abbrev pub together : Tally → Tally → Tally
+together t u = record { flagged = t .flagged || u .flagged; unknown = t .unknown || u .unknown; size = t .size + u .size }
+
+unfoldable pub tallyOf : List Line → Tally
+tallyOf ls = record { flagged = any isFlagged ls; unknown = any isUnknown ls; size = length (rowsOf ls) }
+
+-- The first lines of an array, and those that a report struct shows.
 abbrev pub firstLines : ℕ → List Held → List Line
-firstLines count lines = take count (map (λ (h : Held). h .line) lines)
+firstLines count held = take count (map (λ (h : Held). h .line) held)
 
--- The lines that a report struct holds.
-abbrev pub shownLines : Report → List Line
-shownLines r = (firstLines (r .count) (r .lines) ++ r .remainder ∷ []) ++ r .response ∷ []
+abbrev pub linesIn : Report → List Line
+linesIn r = firstLines (r .count) (r .held)
 
--- A tally is that of some lines.
-pub record Tallies (t : Tally) (ls : List Line) : Type 0 where
-  pub flagged : t .flagged ≡ any isFlagged ls
-  pub unknown : t .unknown ≡ any isUnknown ls
-  pub size : t .size ≡ length (rowsOf ls)
-
--- A tally and the one with a line more.
-pub record OneMore (t : Tally) (l : Line) (u : Tally) : Type 0 where
-  pub flagged : u .flagged ≡ (t .flagged || isFlagged l)
-  pub unknown : u .unknown ≡ (t .unknown || isUnknown l)
-  pub size : u .size ≡ t .size + length (row l)
+-- A report struct shows these lines and has their tally.
+pub record Shows (r : Report) (ls : List Line) : Type 0 where
+  pub lines : linesIn r ≡ ls
+  pub count : r .count ≡ length ls
+  pub tally : r .tally ≡ tallyOf ls
+  pub room : length (r .held) ≡ MostLines

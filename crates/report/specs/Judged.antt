@@ -5,6 +5,7 @@ use mathlib.Core.Logic.{_↔_, _⊎_}
 use mathlib.Core.List.{List, List·Memᴰ}
 use Rattle.report.specs.declared.line.Line.{Line}
 use Rattle.report.specs.declared.line.Line.the-variants.{Invalid, Short, Unknown, Left}
+use Rattle.report.specs.Verdict.{VerdictClear, VerdictFlagged, VerdictUnknown}
 use Rattle.report.specs.Report.{Report, linesOf, verdict}
 
 -- "a line is Invalid or Short or Left is not 0"; "a line is Unknown"
@@ -17,8 +18,8 @@ ShowsUnknown ls = (n : ℕ) × List·Memᴰ (Unknown n) ls
 -- The verdict of every report, from the lines that it shows.
 pub record Judged (r : Report) : Type 0 where
   -- "Flagged (2) if a line is Invalid or Short or Left is not 0;
-  pub flagged : (verdict r ≡ 2) ↔ ShowsFlagged (linesOf r)
+  pub flagged : (verdict r ≡ VerdictFlagged) ↔ ShowsFlagged (linesOf r)
   -- otherwise Unknown (3) if a line is Unknown;
-  pub unknown : (verdict r ≡ 3) ↔ ((ShowsFlagged (linesOf r) → ⊥) × ShowsUnknown (linesOf r))
+  pub unknown : (verdict r ≡ VerdictUnknown) ↔ ((ShowsFlagged (linesOf r) → ⊥) × ShowsUnknown (linesOf r))
   -- otherwise Clear (1)"
-  pub clear : (verdict r ≡ 1) ↔ ((ShowsFlagged (linesOf r) → ⊥) × (ShowsUnknown (linesOf r) → ⊥))
+  pub clear : (verdict r ≡ VerdictClear) ↔ ((ShowsFlagged (linesOf r) → ⊥) × (ShowsUnknown (linesOf r) → ⊥))

@@ -1,10 +1,13 @@
 pub mod Bits
+pub mod Line
 pub mod Scaling
+pub mod Spots
 pub mod Items
+pub mod Verdict
 pub mod Report
 pub mod Rows
-pub mod Demand
 pub mod Answer
+pub mod Demand
 pub mod Left
 pub mod Judged
 pub mod TwoCalls

@@ -1,25 +1,36 @@
 -- The report of a message: document 01, "The report".
 use Prim.Native.Nat.{ℕ, _-_, _*_, _%_}
-use mathlib.Core.Bool.{Bool, true, false, cond, _||_, not}
-use mathlib.Core.List.{List, [], _∷_, _++_}
+use mathlib.Core.Bool.{cond}
+use mathlib.Core.List.{List, [], _∷_, _++_, map}
 use mathlib.Core.Option.{Option, none, some}
 use lib.Dec.{eqb}
-use lib.ListN.{length, drop, getD}
+use lib.ListN.{length, getD}
 use Rattle.frame.specs.Header.{bitH}
-use Rattle.frame.specs.Response.{kindNumber}
+use Rattle.frame.specs.Response.{KindData, kindNumber}
 use Rattle.frame.specs.Frame.{Parts}
-use Rattle.catalogue.specs.Lookup.{Catalogue}
-use Rattle.report.specs.declared.items.Place.{Place}
-use Rattle.report.specs.declared.items.Place.the-variants.{Bit, Lost, Past}
+use Rattle.catalogue.specs.Record.{LayoutRow}
+use Rattle.catalogue.specs.Lookup.{Catalogue, layoutKey}
+use Rattle.report.specs.declared.spots.Place.{Place}
+use Rattle.report.specs.declared.spots.Place.the-variants.{Bit, Lost, Past}
+use Rattle.report.specs.declared.spots.Spot.{Spot}
 use Rattle.report.specs.declared.line.Line.{Line}
-use Rattle.report.specs.declared.line.Line.the-variants.{Number, State, Bits, Text, Digits, Invalid, Short, Unknown, Left, Answered}
-use Rattle.report.specs.Items.{itemLines, placeAfter}
+use Rattle.report.specs.declared.line.Line.the-variants.{Short, Unknown, Left, Answered}
+use Rattle.report.specs.Line.{PlaceLost, DataResponse, NoLayout}
+use Rattle.report.specs.Spots.{spots, placeAfter}
+use Rattle.report.specs.Items.{itemLine}
+use Rattle.report.specs.Verdict.{verdictOf}
 
--- What a reader hands on, whatever the bus: the layout's first byte and target, the data, the response kind.
+-- What a group of lines is read from: bytes, the bit where its items begin, the bit where they end, and its PRNs in the layout.
+pub record Part : Type 0 where
+  pub bytes : List ℕ
+  pub from : ℕ
+  pub to : ℕ
+  pub prns : LayoutRow → List ℕ
+
+-- What is reported, whatever the bus: the key under which the layout is sought, a part for each group, the response kind.
 pub record Message : Type 0 where
-  pub first : ℕ
-  pub target : ℕ
-  pub body : List ℕ
+  pub key : List ℕ
+  pub parts : List Part
   pub kind : ℕ
 
 -- "the frame's first byte (priority bits cleared if H = 0)"
@@ -30,86 +41,72 @@ keyByte header = let b : ℕ = getD header 0 0 in cond (eqb (bitH b) 0) (b % 32)
 unfoldable pub keyTarget : List ℕ → ℕ
 keyTarget header = cond (eqb (bitH (getD header 0 0)) 0) (getD header 1 0) 0
 
+-- "the first data byte as selector, absent if there are no data": whether there is one, 1 or 0.
+unfoldable pub present : List ℕ → ℕ
+present body = cond (eqb (length body) 0) 0 1
+
+-- "The layout sought"
+abbrev pub soughtKey : List ℕ → List ℕ → List ℕ
+soughtKey header body = layoutKey (keyByte header) (keyTarget header) (present body) (getD body 0 0)
+
+-- "The items follow the selector"
+abbrev pub dataPart : List ℕ → Part
+dataPart body = record { bytes = body; from = 8 * present body; to = 8 * length body; prns = λ l. l .prns }
+
+-- The message of a header, data and a response kind, and so of a frame's parts.
+abbrev pub messageFrom : List ℕ → List ℕ → ℕ → Message
+messageFrom header body kind = record { key = soughtKey header body; parts = dataPart body ∷ []; kind = kind }
+
 abbrev pub messageOf : Parts → Message
-messageOf p = record { first = keyByte (p .header); target = keyTarget (p .header); body = p .body; kind = kindNumber (p .kind) }
+messageOf p = messageFrom (p .header) (p .body) (kindNumber (p .kind))
 
--- "the first data byte as selector, absent if there are no data"
-unfoldable pub layoutSought : Catalogue → Message → Option (List ℕ)
-layoutSought c m =
-    cond (eqb (length (m .body)) 0) (c .layout (m .first) (m .target) 0 0) (c .layout (m .first) (m .target) 1 (getD (m .body) 0 0))
-
--- The items follow the selector.
-abbrev pub itemsOf : Message → List ℕ
-itemsOf m = drop 1 (m .body)
-
--- A group of lines and its remainder; a report is groups and the response.
+-- A group: its part, the layout if there is one, its item lines and its remainder. A report is groups and the response.
 pub record Group : Type 0 where
-  pub lines : List Line
+  pub part : Part
+  pub layout : Option LayoutRow
+  pub items : List Line
   pub remainder : Line
 
 pub record Report : Type 0 where
   pub groups : List Group
   pub response : Line
 
--- Left with the bits after the last item; place lost, Unknown 2; a Short line, Short.
-unfoldable pub remainderAt : List ℕ → Place → Line
-remainderAt items (Bit at) = Left (8 * length items - at)
-remainderAt items Lost = Unknown 2
-remainderAt items Past = Short
+-- "place lost, Unknown 2; a Short line, Short; else Left with the bits after the last item"
+unfoldable pub remainderAt : ℕ → Place → Line
+remainderAt to (Bit at) = Left (to - at)
+remainderAt to Lost = Unknown PlaceLost
+remainderAt to Past = Short
 
--- No layout: no item lines, and the remainder is Unknown 8.
-unfoldable pub groupOf : Catalogue → List ℕ → Option (List ℕ) → Group
-groupOf c items none = record { lines = []; remainder = Unknown 8 }
-groupOf c items (some prns) =
-    record { lines = itemLines c items (Bit 0) prns; remainder = remainderAt items (placeAfter c items (Bit 0) prns) }
+-- The spots of a part's PRNs.
+abbrev pub spotsIn : Catalogue → Part → LayoutRow → List Spot
+spotsIn c p l = spots (c .prn) (p .to) (Bit (p .from)) (p .prns l)
 
--- Answered with kind 0, 1 or 2; kind 3, Unknown 7.
+-- "no layout, Unknown 8", and no item lines; else the lines of the part's PRNs and what they leave.
+unfoldable pub groupOf : Catalogue → Option LayoutRow → Part → Group
+groupOf c none p = record { part = p; layout = none; items = []; remainder = Unknown NoLayout }
+groupOf c (some l) p =
+    record {
+      part = p;
+      layout = some l;
+      items = map (itemLine (c .slot) (p .bytes)) (spotsIn c p l);
+      remainder = remainderAt (p .to) (placeAfter (Bit (p .from)) (spotsIn c p l));
+    }
+
+-- "Answered with kind 0, 1 or 2; kind 3, Unknown 7"
 unfoldable pub responseLine : ℕ → Line
-responseLine kind = cond (eqb kind 3) (Unknown 7) (Answered kind)
+responseLine kind = cond (eqb kind KindData) (Unknown DataResponse) (Answered kind)
 
+-- "A report uses the layout sought, if the supplement has it."
 unfoldable pub reportOf : Catalogue → Message → Report
-reportOf c m = record { groups = groupOf c (itemsOf m) (layoutSought c m) ∷ []; response = responseLine (m .kind) }
+reportOf c m = record { groups = map (groupOf c (c .layout (m .key))) (m .parts); response = responseLine (m .kind) }
 
--- Every line that is shown.
+-- Every line that is shown: "item lines, then a remainder line, a response line".
 unfoldable pub groupLines : List Group → List Line
 groupLines [] = []
-groupLines (g ∷ gs) = g .lines ++ g .remainder ∷ groupLines gs
+groupLines (g ∷ gs) = (g .items ++ g .remainder ∷ []) ++ groupLines gs
 
 unfoldable pub linesOf : Report → List Line
 linesOf r = groupLines (r .groups) ++ r .response ∷ []
-
--- A line flags the report if it is Invalid or Short, or Left and not 0; it leaves it Unknown if it is Unknown.
-abbrev pub isFlagged : Line → Bool
-isFlagged (Number x) = false
-isFlagged (State n) = false
-isFlagged (Bits n) = false
-isFlagged (Text n) = false
-isFlagged (Digits n) = false
-isFlagged (Invalid n) = true
-isFlagged Short = true
-isFlagged (Unknown n) = false
-isFlagged (Left n) = not (eqb n 0)
-isFlagged (Answered n) = false
-
-abbrev pub isUnknown : Line → Bool
-isUnknown (Number x) = false
-isUnknown (State n) = false
-isUnknown (Bits n) = false
-isUnknown (Text n) = false
-isUnknown (Digits n) = false
-isUnknown (Invalid n) = false
-isUnknown Short = false
-isUnknown (Unknown n) = true
-isUnknown (Left n) = false
-isUnknown (Answered n) = false
-
-unfoldable pub any : (Line → Bool) → List Line → Bool
-any p [] = false
-any p (l ∷ ls) = p l || any p ls
-
--- Flagged (2) if a line flags it, otherwise Unknown (3) if a line is Unknown, otherwise Clear (1).
-unfoldable pub verdictOf : List Line → ℕ
-verdictOf ls = cond (any isFlagged ls) 2 (cond (any isUnknown ls) 3 1)
 
 unfoldable pub verdict : Report → ℕ
 verdict r = verdictOf (linesOf r)

@@ -5,9 +5,14 @@ use lib.Dec.{eqb, leb, ltb}
 use lib.IntN.{ℤ, pos, negℤ, _+ℤ_, _*ℤ_}
 use lib.Ieee.{binary64, ofInt, div}
 use Rattle.catalogue.specs.declared.rows.SlotRow.{SlotRow}
-use Rattle.catalogue.specs.Rows.{SNM, SED, BMP, ASC, inOrder}
+use Rattle.catalogue.specs.Rows.{SNM, SED, BMP, ASC, BMM, inOrder}
 use Rattle.report.specs.declared.line.Line.{Line}
 use Rattle.report.specs.declared.line.Line.the-variants.{Number, State, Bits, Text, Digits, Invalid, Unknown}
+use Rattle.report.specs.Line.{NotShown, NoState, TooWide}
+
+-- The widest item that is shown: "width over 32, Unknown 6".
+abbrev pub WidestShown : ℕ
+WidestShown = 32
 
 -- The number of a 32-bit pattern in two's complement.
 unfoldable pub signed : ℕ → ℤ
@@ -46,14 +51,22 @@ printable b = leb 0x20 b && leb b 0x7E
 abbrev pub decimal : ℕ → Bool
 decimal d = leb d 9
 
--- The line by form. BMM, SFP and PKT: Unknown 4. Width over 32: Unknown 6.
+-- "ASC: width no multiple of 8, Unknown 4; a byte outside 20h to 7Eh, Invalid; else Text."
+unfoldable pub textLine : ℕ → ℕ → Line
+textLine width raw =
+    cond (eqb (width % 8) 0) (cond (digitsPass printable 8 (width / 8) raw) (Text raw) (Invalid raw)) (Unknown NotShown)
+
+-- "BCD: width no multiple of 4, Unknown 4; a digit over 9, Invalid; else Digits."
+unfoldable pub digitsLine : ℕ → ℕ → Line
+digitsLine width raw =
+    cond (eqb (width % 4) 0) (cond (digitsPass decimal 4 (width / 4) raw) (Digits raw) (Invalid raw)) (Unknown NotShown)
+
+-- "form BMM, SFP or PKT, Unknown 4; width over 32, Unknown 6. Then by form"
 unfoldable pub formLine : ℕ → ℕ → SlotRow → ℕ → Line
 formLine form width slot raw =
-    cond (leb 7 form) (Unknown 4)
-    (cond (ltb 32 width) (Unknown 6)
+    cond (leb BMM form) (Unknown NotShown)
+    (cond (ltb WidestShown width) (Unknown TooWide)
     (cond (leb form SNM) (cond (withinLimits slot raw) (numberLine slot raw) (Invalid raw))
-    (cond (eqb form SED) (cond (withinLimits slot raw) (State raw) (Unknown 5))
+    (cond (eqb form SED) (cond (withinLimits slot raw) (State raw) (Unknown NoState))
     (cond (eqb form BMP) (Bits raw)
-    (cond (eqb form ASC)
-    (cond (eqb (width % 8) 0) (cond (digitsPass printable 8 (width / 8) raw) (Text raw) (Invalid raw)) (Unknown 4))
-    (cond (eqb (width % 4) 0) (cond (digitsPass decimal 4 (width / 4) raw) (Digits raw) (Invalid raw)) (Unknown 4)))))))
+    (cond (eqb form ASC) (textLine width raw) (digitsLine width raw))))))

@@ -1,10 +1,15 @@
 // Reports: what a frame shows under the SAE tables and a supplement.
 pub mod answer;
-pub mod bits;
-pub mod items;
+mod bits;
+mod group;
+mod items;
+pub mod j1850;
 pub mod line;
-pub mod message;
-pub mod rows;
-pub mod scaling;
+pub mod lines;
+mod message;
+mod row;
+mod rows;
+mod scaling;
+pub mod spots;
 pub mod tally;
-pub mod verdict;
+mod verdict;

@@ -1,4 +1,4 @@
-// The lines of a report.
+// The lines of a report, and why a line is Unknown.
 
 // A Number with its value, a code, or why nothing can be shown; Left and Answered are those of remainder and response.
 pub enum Line {
@@ -18,3 +18,22 @@ pub enum Line {
 pub struct Held {
     pub line: Line,
 }
+
+// The PRN is in neither table; an earlier one was, so the place is lost; there is no SLOT of the PRN's form, width and number.
+pub(crate) const NO_PRN: u8 = 1;
+
+pub(crate) const PLACE_LOST: u8 = 2;
+
+pub(crate) const NO_SLOT: u8 = 3;
+
+// A form or width that has no value to show; a SED code without a state; an item too wide.
+pub(crate) const NOT_SHOWN: u8 = 4;
+
+pub(crate) const NO_STATE: u8 = 5;
+
+pub(crate) const TOO_WIDE: u8 = 6;
+
+// Response data are not read; no layout is known.
+pub(crate) const DATA_RESPONSE: u8 = 7;
+
+pub(crate) const NO_LAYOUT: u8 = 8;

@@ -1,12 +1,22 @@
 // The line of an item whose SLOT is known.
 use crate::line::Line;
+use crate::line::NO_STATE;
+use crate::line::NOT_SHOWN;
+use catalogue::rows::ASC;
+use catalogue::rows::BMP;
+use catalogue::rows::SED;
+use catalogue::rows::SNM;
 use catalogue::rows::SlotRow;
 use catalogue::rows::in_order;
 ghost use mathlib.Core.Path.{_≡_};
-ghost use Prim.Native.Nat.{_≤_, _<_, _^_, _/_, _%_};
+ghost use Prim.Native.Nat.{_≤_, _<_, _^_};
 ghost use mathlib.Core.Bool.{cond};
-ghost use lib.Dec.{eqb};
-ghost use Rattle.report.specs.Scaling.{signed, pattern, rawNumber, above, numberLine, withinLimits, digitsPass, printable, decimal, formLine};
+ghost use Rattle.catalogue.specs.Rows.{BMM};
+ghost use Rattle.report.specs.Line.{NoState};
+ghost use Rattle.report.specs.Scaling.{WidestShown, signed, pattern, rawNumber, above, numberLine, withinLimits, digitsPass, printable, decimal, textLine, digitsLine, formLine};
+
+// The widest item that is shown.
+pub(crate) const WIDEST_SHOWN: u8 = 32;
 
 // The number of a 32-bit pattern in two's complement.
 fn signed_of(p: u32) -> i64
@@ -21,10 +31,10 @@ fn signed_of(p: u32) -> i64
 
 // The raw number as a 32-bit pattern: for SNM the sign bit fills the bits before it.
 fn pattern_of(form: u8, width: u8, raw: u32) -> u32
-    requires { ⌜ (1 ≤ width) × (width ≤ 32) × (raw < 2 ^ width) ⌝ }
+    requires { ⌜ (1 ≤ width) × (width ≤ WidestShown) × (raw < 2 ^ width) ⌝ }
     ensures { λ r. ⌜ r ≡ pattern form width raw ⌝ }
 {
-    if form == 2 {
+    if form == SNM {
         let size = 1u64 << width;
         if size / 2 <= raw as u64 {
             return (raw as u64 + (0x1_0000_0000 - size)) as u32;
@@ -35,10 +45,10 @@ fn pattern_of(form: u8, width: u8, raw: u32) -> u32
 
 // N of document 01.
 fn raw_number(form: u8, width: u8, raw: u32) -> i64
-    requires { ⌜ (1 ≤ width) × (width ≤ 32) × (raw < 2 ^ width) ⌝ }
+    requires { ⌜ (1 ≤ width) × (width ≤ WidestShown) × (raw < 2 ^ width) ⌝ }
     ensures { λ r. ⌜ r ≡ rawNumber form width raw ⌝ }
 {
-    if form == 2 {
+    if form == SNM {
         signed_of(pattern_of(form, width, raw))
     } else {
         raw as i64
@@ -47,7 +57,7 @@ fn raw_number(form: u8, width: u8, raw: u32) -> i64
 
 // The whole number above the line.
 fn above_line(slot: SlotRow, raw: u32) -> i64
-    requires { ⌜ (1 ≤ slot .width) × (slot .width ≤ 32) × (raw < 2 ^ slot .width) ⌝ }
+    requires { ⌜ (1 ≤ slot .width) × (slot .width ≤ WidestShown) × (raw < 2 ^ slot .width) ⌝ }
     ensures { λ r. ⌜ r ≡ above slot raw ⌝ }
 {
     let n = raw_number(slot.form, slot.width, raw);
@@ -56,7 +66,7 @@ fn above_line(slot: SlotRow, raw: u32) -> i64
 
 // The Number of a raw number: the one place where a double is made.
 fn number_line(slot: SlotRow, raw: u32) -> Line
-    requires { ⌜ (1 ≤ slot .width) × (slot .width ≤ 32) × (raw < 2 ^ slot .width) ⌝ }
+    requires { ⌜ (1 ≤ slot .width) × (slot .width ≤ WidestShown) × (raw < 2 ^ slot .width) ⌝ }
     ensures { λ r. ⌜ r ≡ numberLine slot raw ⌝ }
 {
     let divisor = slot.divisor as f64;
@@ -66,7 +76,7 @@ fn number_line(slot: SlotRow, raw: u32) -> Line
 
 // Whether the raw number is within the SLOT's limits, as signed for SNM.
 fn within_limits(slot: SlotRow, raw: u32) -> bool
-    requires { ⌜ (1 ≤ slot .width) × (slot .width ≤ 32) × (raw < 2 ^ slot .width) ⌝ }
+    requires { ⌜ (1 ≤ slot .width) × (slot .width ≤ WidestShown) × (raw < 2 ^ slot .width) ⌝ }
     ensures { λ r. ⌜ r ≡ withinLimits slot raw ⌝ }
 {
     let p = pattern_of(slot.form, slot.width, raw);
@@ -110,7 +120,7 @@ fn all_decimal(raw: u32, n: u8) -> bool
 
 // UNM and SNM: the Number, or Invalid out of the SLOT's limits.
 fn scaled_line(slot: SlotRow, raw: u32) -> Line
-    requires { ⌜ (1 ≤ slot .width) × (slot .width ≤ 32) × (raw < 2 ^ slot .width) ⌝ }
+    requires { ⌜ (1 ≤ slot .width) × (slot .width ≤ WidestShown) × (raw < 2 ^ slot .width) ⌝ }
     ensures { λ r. ⌜ r ≡ cond (withinLimits slot raw) (numberLine slot raw) (Line.Invalid raw) ⌝ }
 {
     if within_limits(slot, raw) {
@@ -122,22 +132,22 @@ fn scaled_line(slot: SlotRow, raw: u32) -> Line
 
 // SED: the State, or Unknown 5 out of the limits.
 fn state_line(slot: SlotRow, raw: u32) -> Line
-    requires { ⌜ (1 ≤ slot .width) × (slot .width ≤ 32) × (raw < 2 ^ slot .width) ⌝ }
-    ensures { λ r. ⌜ r ≡ cond (withinLimits slot raw) (Line.State raw) (Line.Unknown 5) ⌝ }
+    requires { ⌜ (1 ≤ slot .width) × (slot .width ≤ WidestShown) × (raw < 2 ^ slot .width) ⌝ }
+    ensures { λ r. ⌜ r ≡ cond (withinLimits slot raw) (Line.State raw) (Line.Unknown NoState) ⌝ }
 {
     if within_limits(slot, raw) {
         Line::State(raw)
     } else {
-        Line::Unknown(5)
+        Line::Unknown(NO_STATE)
     }
 }
 
 // ASC: whole bytes, all printable.
 fn text_line(width: u8, raw: u32) -> Line
-    ensures { λ r. ⌜ r ≡ cond (eqb (width % 8) 0) (cond (digitsPass printable 8 (width / 8) raw) (Line.Text raw) (Line.Invalid raw)) (Line.Unknown 4) ⌝ }
+    ensures { λ r. ⌜ r ≡ textLine width raw ⌝ }
 {
     if width % 8 != 0 {
-        return Line::Unknown(4);
+        return Line::Unknown(NOT_SHOWN);
     }
     if all_printable(raw, width / 8) {
         Line::Text(raw)
@@ -148,10 +158,10 @@ fn text_line(width: u8, raw: u32) -> Line
 
 // BCD: whole digits, none above 9.
 fn digits_line(width: u8, raw: u32) -> Line
-    ensures { λ r. ⌜ r ≡ cond (eqb (width % 4) 0) (cond (digitsPass decimal 4 (width / 4) raw) (Line.Digits raw) (Line.Invalid raw)) (Line.Unknown 4) ⌝ }
+    ensures { λ r. ⌜ r ≡ digitsLine width raw ⌝ }
 {
     if width % 4 != 0 {
-        return Line::Unknown(4);
+        return Line::Unknown(NOT_SHOWN);
     }
     if all_decimal(raw, width / 4) {
         Line::Digits(raw)
@@ -162,19 +172,19 @@ fn digits_line(width: u8, raw: u32) -> Line
 
 // The line of an item by its form, from UNM to BCD, and of at most 32 bits.
 pub(crate) fn form_line(form: u8, width: u8, slot: SlotRow, raw: u32) -> Line
-    requires { ⌜ (form < 7) × (slot .width ≡ width) × (1 ≤ width) × (width ≤ 32) × (raw < 2 ^ width) ⌝ }
+    requires { ⌜ (form < BMM) × (slot .width ≡ width) × (1 ≤ width) × (width ≤ WidestShown) × (raw < 2 ^ width) ⌝ }
     ensures { λ r. ⌜ r ≡ formLine form width slot raw ⌝ }
 {
-    if form <= 2 {
+    if form <= SNM {
         return scaled_line(slot, raw);
     }
-    if form == 3 {
+    if form == SED {
         return state_line(slot, raw);
     }
-    if form == 4 {
+    if form == BMP {
         return Line::Bits(raw);
     }
-    if form == 5 {
+    if form == ASC {
         return text_line(width, raw);
     }
     digits_line(width, raw)

@@ -1,53 +1,23 @@
-// What a line does to the verdict.
-use crate::line::Line;
+// The verdict of lines, from what they add up to.
 use crate::tally::Tally;
 ghost use mathlib.Core.Path.{_≡_};
-ghost use mathlib.Core.Bool.{cond};
-ghost use Rattle.report.specs.Report.{isFlagged, isUnknown};
+ghost use Rattle.report.specs.Verdict.{verdictBy};
 
-pub(crate) fn is_flagged(line: Line) -> bool
-    ensures { λ r. ⌜ r ≡ isFlagged line ⌝ }
-{
-    match line {
-        Line::Number(_) => false,
-        Line::State(_) => false,
-        Line::Bits(_) => false,
-        Line::Text(_) => false,
-        Line::Digits(_) => false,
-        Line::Invalid(_) => true,
-        Line::Short => true,
-        Line::Unknown(_) => false,
-        Line::Left(n) => n != 0,
-        Line::Answered(_) => false,
-    }
-}
+const CLEAR: u8 = 1;
 
-pub(crate) fn is_unknown(line: Line) -> bool
-    ensures { λ r. ⌜ r ≡ isUnknown line ⌝ }
-{
-    match line {
-        Line::Number(_) => false,
-        Line::State(_) => false,
-        Line::Bits(_) => false,
-        Line::Text(_) => false,
-        Line::Digits(_) => false,
-        Line::Invalid(_) => false,
-        Line::Short => false,
-        Line::Unknown(_) => true,
-        Line::Left(_) => false,
-        Line::Answered(_) => false,
-    }
-}
+const FLAGGED: u8 = 2;
 
-// Flagged 2, otherwise Unknown 3, otherwise Clear 1.
+const UNKNOWN: u8 = 3;
+
+// Flagged, otherwise Unknown, otherwise Clear.
 pub(crate) fn verdict_of(tally: Tally) -> u8
-    ensures { λ r. ⌜ r ≡ cond (tally .flagged) 2 (cond (tally .unknown) 3 1) ⌝ }
+    ensures { λ r. ⌜ r ≡ verdictBy (tally .flagged) (tally .unknown) ⌝ }
 {
     if tally.flagged {
-        return 2;
+        return FLAGGED;
     }
     if tally.unknown {
-        return 3;
+        return UNKNOWN;
     }
-    1
+    CLEAR
 }

@@ -5,8 +5,9 @@ use Prim.Native.Nat.{ℕ, _≤_}
 use native.Mathlib.Omega.{arith}
 use borrow.Author.Needs.{needs}
 use lib.ListN.{length}
+use Rattle.frame.specs.Reader.{readFrame}
 use Rattle.report.specs.Answer.{Answer, refused, shown, reportAnswer, sized, reportedOf}
-use Rattle.report.proofs.SizeLaws.{place-within, size-within}
+use Rattle.report.proofs.Size.{place-within, size-within}
 use Rattle.c_api.specs.Words.{reportWord}
 use Rattle.c_api.proofs.rakhubole_j1850_report.Statement.{statement}
 use Rattle.c_api.proofs.rakhubole_j1850_report.Tie as tie
@@ -22,7 +23,7 @@ cast-result c = search needs
 
 -- What the definitions answer for what was lent.
 abbrev answerAt : tie.Start → Answer (List ℕ)
-answerAt s = let a = s .args in reportAnswer (a .supplement .now) (a .first .now) (a .response .now) (length (a .out .now))
+answerAt s = let a = s .args in reportAnswer (a .supplement .now) (readFrame (a .first .now) (a .response .now)) (length (a .out .now))
 
 -- A refusal.
 module _ (c : tie.After-known-told) where
@@ -35,7 +36,7 @@ module _ (c : tie.After-known-told) where
   place-fits : c .before .reported .given .0 .1 .0 ≤ 16384
   place-fits =
       let a = start .args in
-      place-within (a .supplement .now) (a .first .now) (a .response .now) (length (a .out .now)) _ _ told-refused
+      place-within (a .supplement .now) (readFrame (a .first .now) (a .response .now)) (length (a .out .now)) _ _ told-refused
 
 -- Rows.
 module _ (c : tie.After-known-told2) where
@@ -58,7 +59,7 @@ mul-result-2 : tie.Need-mul-result-2
 mul-result-2 c =
     let a = start2 c .args in
     let size = c .before .reported2 .given .0 .0 in
-    omega (arith, size-within (a .supplement .now) (a .first .now) (a .response .now) (length (a .out .now)) size (told-shown c))
+    omega (arith, size-within (a .supplement .now) (readFrame (a .first .now) (a .response .now)) (length (a .out .now)) size (told-shown c))
 
 same-length : tie.Need-same-length
 same-length c = search needs

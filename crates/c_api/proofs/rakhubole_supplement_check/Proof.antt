@@ -2,7 +2,7 @@
 use mathlib.Core.Path.{ap}
 use Prim.Native.Nat.{_≤_}
 use native.Mathlib.Omega.{arith}
-use Rattle.catalogue.proofs.CheckLaws.{place-small}
+use Rattle.catalogue.proofs.supplement.Check.{place-small}
 use Rattle.c_api.specs.Words.{checkWord}
 use borrow.Author.Needs.{needs}
 use Rattle.c_api.proofs.rakhubole_supplement_check.Statement.{statement}

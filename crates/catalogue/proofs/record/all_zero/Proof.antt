@@ -6,7 +6,7 @@ use native.Mathlib.Omega.{arith}
 use lib.Dec.{eqb}
 use lib.ListN.{length, drop}
 use Rattle.catalogue.specs.Record.{allZero}
-use Rattle.catalogue.proofs.RecordLaws.{zero-ends, zero-next}
+use Rattle.catalogue.proofs.record.Laws.{zero-ends, zero-next}
 use Rattle.catalogue.proofs.record.all_zero.Statement.{statement}
 use Rattle.catalogue.proofs.record.all_zero.Tie as tie
 
@@ -16,25 +16,17 @@ Inv-loop bytes from any₀ i₀ any i = allZero (drop from bytes) ≡ (eqb any 0
 abbrev μ-loop : tie.MeasureT-loop
 μ-loop bytes from any₀ i₀ any i = length bytes - i
 
-loop-holds : tie.Need-loop-holds Inv-loop μ-loop
-loop-holds c = refl
-
-shared-slice-read-any : tie.Need-shared-slice-read-any Inv-loop μ-loop
-shared-slice-read-any c = omega arith
-
-add-i : tie.Need-add-i Inv-loop μ-loop
-add-i c = omega arith
-
-loop-less : tie.Need-loop-less Inv-loop μ-loop
-loop-less c = omega arith
-
 loop-again : tie.Need-loop-again Inv-loop μ-loop
-loop-again c = c .before .before .loop .inv ∙ zero-next (c .before .before .before .args .bytes .now) (c .before .before .loop .i) (c .before .before .loop .any) (c .before .loop-test .taken)
+loop-again c =
+    let loop = c .before .before .loop in
+    loop .inv ∙ zero-next (c .before .before .before .args .bytes .now) (loop .i) (loop .any) (c .before .loop-test .taken)
 
-returns : tie.Need-returns Inv-loop μ-loop
-returns c = sym (c .before .loop .inv ∙ zero-ends (c .before .before .args .bytes .now) (c .before .loop .i) (c .before .loop .any) (c .loop-test .left))
+ended : tie.Need-returns Inv-loop μ-loop
+ended c =
+    let loop = c .before .loop in
+    sym (loop .inv ∙ zero-ends (c .before .before .args .bytes .now) (loop .i) (loop .any) (c .loop-test .left))
 
 pub all-zero-spec : {M : Type 1} → statement M
 all-zero-spec =
     tie.close
-    (tie.spec Inv-loop μ-loop loop-holds shared-slice-read-any add-i loop-less loop-again returns)
+    (tie.spec Inv-loop μ-loop (λ c. refl) (λ c. omega arith) (λ c. omega arith) (λ c. omega arith) loop-again ended)

@@ -5,40 +5,19 @@ use borrow.Author.Needs.{needs}
 use Rattle.catalogue.proofs.record.four_at.Statement.{statement}
 use Rattle.catalogue.proofs.record.four_at.Tie as tie
 
-two-at-requires : tie.Need-two-at-requires
-two-at-requires c κs = search needs
-
-add-two-at : tie.Need-add-two-at
-add-two-at c = search needs
-
-two-at-requires-2 : tie.Need-two-at-requires-2
-two-at-requires-2 c κs = search needs
-
-cast-result : tie.Need-cast-result
-cast-result c = search needs
-
-mul-result : tie.Need-mul-result
-mul-result c = search needs
-
-cast-result-2 : tie.Need-cast-result-2
-cast-result-2 c = search needs
-
-add-result : tie.Need-add-result
-add-result c = search needs
-
-returns : tie.Need-returns
+joined : tie.Need-returns
 unfolding four
-returns c = λ i. c .before .two-at .ensures i * 65536 + c .two-at2 .ensures i
+joined c = λ i. c .before .two-at .ensures i * 65536 + c .two-at2 .ensures i
 
 pub four-at-spec : {M : Type 1} → statement M
 four-at-spec =
     tie.close
     (tie.spec
-    two-at-requires
-    add-two-at
-    two-at-requires-2
-    cast-result
-    mul-result
-    cast-result-2
-    add-result
-    returns)
+    (λ c κs. search needs)
+    (λ c. search needs)
+    (λ c κs. search needs)
+    (λ c. search needs)
+    (λ c. search needs)
+    (λ c. search needs)
+    (λ c. search needs)
+    joined)

@@ -4,33 +4,9 @@ use borrow.Author.Needs.{needs}
 use Rattle.catalogue.proofs.record.slot_of.Statement.{statement}
 use Rattle.catalogue.proofs.record.slot_of.Tie as tie
 
-byte-at-requires : tie.Need-byte-at-requires
-byte-at-requires c κs = search needs
-
-byte-at-requires-2 : tie.Need-byte-at-requires-2
-byte-at-requires-2 c κs = search needs
-
-two-at-requires : tie.Need-two-at-requires
-two-at-requires c κs = search needs
-
-two-at-requires-2 : tie.Need-two-at-requires-2
-two-at-requires-2 c κs = search needs
-
-two-at-requires-3 : tie.Need-two-at-requires-3
-two-at-requires-3 c κs = search needs
-
-four-at-requires : tie.Need-four-at-requires
-four-at-requires c κs = search needs
-
-four-at-requires-2 : tie.Need-four-at-requires-2
-four-at-requires-2 c κs = search needs
-
-four-at-requires-3 : tie.Need-four-at-requires-3
-four-at-requires-3 c κs = search needs
-
-returns : tie.Need-returns
+fields : tie.Need-returns
 unfolding slotRow
-returns c =
+fields c =
     λ i.
     record {
       form = c .before .before .before .before .before .before .before .byte-at .ensures i;
@@ -47,12 +23,12 @@ pub slot-of-spec : {M : Type 1} → statement M
 slot-of-spec =
     tie.close
     (tie.spec
-    byte-at-requires
-    byte-at-requires-2
-    two-at-requires
-    two-at-requires-2
-    two-at-requires-3
-    four-at-requires
-    four-at-requires-2
-    four-at-requires-3
-    returns)
+    (λ c κs. search needs)
+    (λ c κs. search needs)
+    (λ c κs. search needs)
+    (λ c κs. search needs)
+    (λ c κs. search needs)
+    (λ c κs. search needs)
+    (λ c κs. search needs)
+    (λ c κs. search needs)
+    fields)

@@ -1,29 +1,31 @@
 -- Each test is a part of the definition.
-use mathlib.Core.Path.{sym, _∙_}
+use mathlib.Core.Path.{_≡_, sym, _∙_}
+use mathlib.Core.Bool.{true}
 use borrow.Author.Tests.{not-true, not-false, le-leb, lt-leb}
-use Rattle.catalogue.specs.Rows.{slotFits}
+use Rattle.catalogue.specs.Rows.{keyFits, slotFits}
 use borrow.Author.Needs.{needs}
 use Rattle.catalogue.proofs.rows.slot_fits.Statement.{statement}
 use Rattle.catalogue.proofs.rows.slot_fits.Tie as tie
 
-key-fits-requires : tie.Need-key-fits-requires
-key-fits-requires c κs = search needs
+key-passed : (c : tie.Else1) → keyFits (c .before .before .args .row .form) (c .before .before .args .row .width) ≡ true
+key-passed c = sym (c .before .key-fits .ensures) ∙ not-false _ (c .if1 .left)
 
-returns : tie.Need-returns
+key-fails : tie.Need-returns
 unfolding slotFits
-returns c = sym (rw (sym (c .before .key-fits .ensures) ∙ not-true _ (c .if1 .taken)))
+key-fails c = sym (rw (sym (c .before .key-fits .ensures) ∙ not-true _ (c .if1 .taken)))
 
-returns-2 : tie.Need-returns-2
+divisor-fails : tie.Need-returns-2
 unfolding slotFits
-returns-2 c = sym (rw (sym (c .before .before .before .key-fits .ensures) ∙ not-false _ (c .before .before .if1 .left), lt-leb 1 (c .before .before .before .before .args .row .divisor) (c .if2 .taken)))
+divisor-fails c =
+    let past = c .before .before in
+    sym (rw (key-passed past, lt-leb 1 (past .before .before .args .row .divisor) (c .if2 .taken)))
 
-in-order-requires : tie.Need-in-order-requires
-in-order-requires c κs = search needs
-
-returns-3 : tie.Need-returns-3
+limits : tie.Need-returns-3
 unfolding slotFits
-returns-3 c = c .in-order .ensures ∙ sym (rw (sym (c .before .before .before .before .key-fits .ensures) ∙ not-false _ (c .before .before .before .if1 .left), le-leb 1 (c .before .before .before .before .before .args .row .divisor) (c .before .if2 .left)))
+limits c =
+    let past = c .before .before .before in
+    c .in-order .ensures ∙ sym (rw (key-passed past, le-leb 1 (past .before .before .args .row .divisor) (c .before .if2 .left)))
 
 pub slot-fits-spec : {M : Type 1} → statement M
 slot-fits-spec =
-    tie.close (tie.spec key-fits-requires returns returns-2 in-order-requires returns-3)
+    tie.close (tie.spec (λ c κs. search needs) key-fails divisor-fails (λ c κs. search needs) limits)

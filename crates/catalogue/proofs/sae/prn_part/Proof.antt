@@ -4,7 +4,7 @@ use native.Mathlib.Omega.{arith}
 use Rattle.catalogue.specs.Search.{every, rising}
 use Rattle.catalogue.specs.Tables.{prnRows}
 use Rattle.catalogue.specs.Contracts.{rowsFrom}
-use Rattle.catalogue.proofs.TableLaws.{prn-same}
+use Rattle.catalogue.proofs.sae.Laws.{prn-same}
 use Rattle.catalogue.proofs.sae.prn_part.Statement.{statement}
 use Rattle.catalogue.proofs.sae.prn_part.Tie as tie
 

@@ -1,7 +1,7 @@
 -- The bracket closes on the place of the key; where it has closed, the key stands there or nowhere.
 use Prim.Native.Nat.{_-_}
 use native.Mathlib.Omega.{arith}
-use Rattle.catalogue.proofs.SearchLaws.{Bracket, bracket-all, bracket-up, bracket-down, meets, place-found, place-missing}
+use Rattle.catalogue.proofs.search.Laws.{Bracket, bracket-all, bracket-up, bracket-down, meets, place-found, place-missing}
 use Rattle.catalogue.proofs.search.place_of.Statement.{statement}
 use Rattle.catalogue.proofs.search.place_of.Tie as tie
 
@@ -11,56 +11,27 @@ Inv-loop keys key low₀ high₀ low high = Bracket keys key low high
 abbrev μ-loop : tie.MeasureT-loop
 μ-loop keys key low₀ high₀ low high = high - low
 
-loop-holds : tie.Need-loop-holds Inv-loop μ-loop
-loop-holds c = bracket-all _ _
-
-sub-mid : tie.Need-sub-mid Inv-loop μ-loop
-sub-mid c = omega arith
-
-add-mid : tie.Need-add-mid Inv-loop μ-loop
-add-mid c = omega arith
-
-mul-if1 : tie.Need-mul-if1 Inv-loop μ-loop
-mul-if1 c = omega arith
-
-shared-slice-read-if1 : tie.Need-shared-slice-read-if1 Inv-loop μ-loop
-shared-slice-read-if1 c = omega arith
-
-add-low : tie.Need-add-low Inv-loop μ-loop
-add-low c = omega arith
-
-loop-less : tie.Need-loop-less Inv-loop μ-loop
-loop-less c = omega arith
-
 loop-again : tie.Need-loop-again Inv-loop μ-loop
 loop-again c =
-    bracket-up (c .before .before .before .before .pre) (c .before .before .before .loop .inv) _ (omega arith) (omega arith) (c .if1 .taken)
-
-loop-less-2 : tie.Need-loop-less-2 Inv-loop μ-loop
-loop-less-2 c = omega arith
+    let turn = c .before .before .before in
+    bracket-up (turn .before .pre) (turn .loop .inv) _ (omega arith) (omega arith) (c .if1 .taken)
 
 loop-again-2 : tie.Need-loop-again-2 Inv-loop μ-loop
 loop-again-2 c =
-    bracket-down (c .before .before .before .before .pre) (c .before .before .before .loop .inv) _ (omega arith) (omega arith) (c .if1 .left)
+    let turn = c .before .before .before in
+    bracket-down (turn .before .pre) (turn .loop .inv) _ (omega arith) (omega arith) (c .if1 .left)
 
-returns : tie.Need-returns Inv-loop μ-loop
-returns c =
+beyond : tie.Need-returns Inv-loop μ-loop
+beyond c =
+    let turn = c .before .before in
     place-missing _ _ _ (omega (arith, c .if2 .taken))
-    (meets (c .before .before .before .pre) (c .before .before .loop .inv) (c .before .loop-test .left) (λ h e. omega (arith, c .if2 .taken)))
+    (meets (turn .before .pre) (turn .loop .inv) (c .before .loop-test .left) (λ h e. omega (arith, c .if2 .taken)))
 
-mul-if3 : tie.Need-mul-if3 Inv-loop μ-loop
-mul-if3 c = omega arith
-
-shared-slice-read-if3 : tie.Need-shared-slice-read-if3 Inv-loop μ-loop
-shared-slice-read-if3 c = omega arith
-
-returns-2 : tie.Need-returns-2 Inv-loop μ-loop
-returns-2 c = place-found _ _ _ (omega arith) (c .if3 .taken)
-
-returns-3 : tie.Need-returns-3 Inv-loop μ-loop
-returns-3 c =
+another : tie.Need-returns-3 Inv-loop μ-loop
+another c =
+    let turn = c .before .before .before .before in
     place-missing _ _ _ (omega arith)
-    (meets (c .before .before .before .before .before .pre) (c .before .before .before .before .loop .inv) (c .before .before .before .loop-test .left) (λ h e. c .if3 .left e))
+    (meets (turn .before .pre) (turn .loop .inv) (c .before .before .before .loop-test .left) (λ h e. c .if3 .left e))
 
 pub place-of-spec : {M : Type 1} → statement M
 place-of-spec =
@@ -68,18 +39,18 @@ place-of-spec =
     (tie.spec
     Inv-loop
     μ-loop
-    loop-holds
-    sub-mid
-    add-mid
-    mul-if1
-    shared-slice-read-if1
-    add-low
-    loop-less
+    (λ c. bracket-all _ _)
+    (λ c. omega arith)
+    (λ c. omega arith)
+    (λ c. omega arith)
+    (λ c. omega arith)
+    (λ c. omega arith)
+    (λ c. omega arith)
     loop-again
-    loop-less-2
+    (λ c. omega arith)
     loop-again-2
-    returns
-    mul-if3
-    shared-slice-read-if3
-    returns-2
-    returns-3)
+    beyond
+    (λ c. omega arith)
+    (λ c. omega arith)
+    (λ c. place-found _ _ _ (omega arith) (c .if3 .taken))
+    another)

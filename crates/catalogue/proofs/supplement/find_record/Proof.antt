@@ -1,86 +1,69 @@
 -- What is sought in the whole is sought in the records from the present place on.
-use mathlib.Core.Path.{_≡_, refl, sym, ap, _∙_}
+use mathlib.Core.Path.{_≡_, sym, ap, _∙_}
 use mathlib.Core.Logic.{⊎-elim}
-use mathlib.Core.Option.{some}
-use Prim.Native.Nat.{ℕ, _-_, _≤_}
+use Prim.Native.Nat.{_-_, _<_, _≤_}
 use native.Mathlib.Omega.{arith}
-use lib.ListN.{length, take, drop, getD}
-use Rattle.catalogue.specs.Search.{firstWhere}
-use Rattle.catalogue.specs.Record.{recordSize, hasKey}
-use Rattle.catalogue.specs.Supplement.{recordsOf, recordWith}
-use Rattle.catalogue.specs.Contracts.{recordFrom}
-use Rattle.catalogue.proofs.SupplementLaws.{from-length, from-part, search-hit, search-miss, search-end}
+use lib.ListN.{length, getD}
+use Rattle.catalogue.specs.Kind.{recordSize}
+use Rattle.catalogue.specs.Contracts.{Seeking}
+use Rattle.catalogue.proofs.supplement.Laws.{onward}
+use Rattle.catalogue.proofs.supplement.Seek.{begun, hit, miss, ended}
 use Rattle.catalogue.proofs.supplement.find_record.Statement.{statement}
 use Rattle.catalogue.proofs.supplement.find_record.Tie as tie
 
 abbrev Inv-loop : tie.InvT-loop
-Inv-loop s key at₀ kind₀ size₀ at kind size = (recordWith key s ≡ firstWhere (hasKey key) (recordsOf (drop at s))) × (at ≤ length s) × (size ≡ recordSize kind)
+Inv-loop s key at₀ kind₀ size₀ at kind size = Seeking s key at kind size
 
 abbrev μ-loop : tie.MeasureT-loop
 μ-loop s key at₀ kind₀ size₀ at kind size = length s - at
 
-record-size-requires : tie.Need-record-size-requires Inv-loop μ-loop
-record-size-requires c κs = tt
-
 loop-holds : tie.Need-loop-holds Inv-loop μ-loop
-unfolding recordWith
-loop-holds c = (refl, omega arith, c .record-size .ensures)
+loop-holds c = begun _ _ _ (c .record-size .ensures)
 
-shared-slice-read-first : tie.Need-shared-slice-read-first Inv-loop μ-loop
-shared-slice-read-first c = omega arith
+-- The size is that of the record at the place, taken anew or kept.
+module _ (c : tie.Joined1 Inv-loop μ-loop) where
+  fresh-size : c .if1 .size ≡ recordSize (c .if1 .kind)
+  fresh-size =
+      ⊎-elim (λ w. w .3 ∙ w .1 .ensures ∙ ap recordSize (sym (w .2)))
+      (λ w. w .2 ∙ c .before .before .before .loop .inv .sized ∙ ap recordSize (sym (w .1)))
+      (c .if1 .came)
 
-record-size-requires-2 : tie.Need-record-size-requires-2 Inv-loop μ-loop
-record-size-requires-2 c κs = tt
-
--- the size is that of the record at the place, taken anew or kept
-fresh : (c : tie.Joined1 Inv-loop μ-loop) → (c .if1 .size ≡ recordSize (c .if1 .kind)) × (c .if1 .kind ≡ getD (c .before .before .before .before .before .before .before .args .s .now) (c .before .before .before .loop .at) 0)
-fresh c =
-    ⊎-elim (λ w. (w .3 ∙ w .1 .ensures ∙ ap recordSize (sym (w .2)), w .2))
-    (λ w. (w .2 ∙ c .before .before .before .loop .inv .2 ∙ ap recordSize (sym (w .1)), w .1 ∙ sym (w .0 .left)))
-    (c .if1 .came)
+  fresh-kind : c .if1 .kind ≡ getD (c .before .before .before .before .before .before .before .args .s .now) (c .before .before .before .loop .at) 0
+  fresh-kind = ⊎-elim (λ w. w .2) (λ w. w .1 ∙ sym (w .0 .left)) (c .if1 .came)
 
 end-of-requires : tie.Need-end-of-requires Inv-loop μ-loop
-end-of-requires c κs = (c .before .before .loop-test .taken, fresh c .0 ∙ ap recordSize (fresh c .1))
+end-of-requires c κs = (c .before .before .loop-test .taken, fresh-size c ∙ ap recordSize (fresh-kind c))
 
-sub-has-key : tie.Need-sub-has-key Inv-loop μ-loop
-sub-has-key c = omega (arith, c .end-of .ensures)
-
-part-has-key-start : tie.Need-part-has-key-start Inv-loop μ-loop
-part-has-key-start c = omega (arith, c .end-of .ensures)
-
-part-has-key-end : tie.Need-part-has-key-end Inv-loop μ-loop
-part-has-key-end c = omega (arith, c .end-of .ensures, from-length (c .before .before .before .before .before .before .before .before .args .s .now) (c .before .before .before .before .loop .at) (c .before .before .before .loop-test .taken))
-
-has-key-requires : tie.Need-has-key-requires Inv-loop μ-loop
-has-key-requires c κs = tt
-
-part : (c : tie.After-end-of Inv-loop μ-loop) → take (c .end-of .result - c .before .before .before .before .loop .at) (drop (c .before .before .before .before .loop .at) (c .before .before .before .before .before .before .before .before .args .s .now)) ≡ recordFrom (c .before .before .before .before .before .before .before .before .args .s .now) (c .before .before .before .before .loop .at)
-part c = from-part (c .before .before .before .before .before .before .before .before .args .s .now) (c .before .before .before .before .loop .at) (c .end-of .ensures)
-
-keyed : (c : tie.After-has-key Inv-loop μ-loop) → hasKey (c .before .before .before .before .before .before .before .before .before .before .args .key .now) (recordFrom (c .before .before .before .before .before .before .before .before .before .before .args .s .now) (c .before .before .before .before .before .before .loop .at)) ≡ c .has-key .result
-keyed c = sym (c .has-key .ensures ∙ ap (hasKey (c .before .before .before .before .before .before .before .before .before .before .args .key .now)) (part (c .before .before)))
+-- The record ends behind its place, within the supplement.
+module _ (c : tie.After-end-of Inv-loop μ-loop) where
+  bounds :
+      (c .before .before .before .before .loop .at < c .end-of .result)
+      × (c .end-of .result ≤ length (c .before .before .before .before .before .before .before .before .args .s .now))
+  bounds =
+      let turn = c .before .before .before in
+      onward (turn .before .before .before .before .before .args .s .now) (turn .before .loop .at) (turn .loop-test .taken) (c .end-of .ensures)
 
 returns : tie.Need-returns Inv-loop μ-loop
-returns c = (
-  ap some (part (c .before .before .before))
-      ∙ sym (c .before .before .before .before .before .before .before .loop .inv .0 ∙ search-hit (c .before .before .before .before .before .before .before .before .before .before .before .args .key .now) (c .before .before .before .before .before .before .before .before .before .before .before .args .s .now) (c .before .before .before .before .before .before .before .loop .at) (c .before .before .before .before .before .before .loop-test .taken) (keyed (c .before) ∙ c .if2 .taken)),
-  omega (arith, c .before .before .before .end-of .ensures, from-length (c .before .before .before .before .before .before .before .before .before .before .before .args .s .now) (c .before .before .before .before .before .before .before .loop .at) (c .before .before .before .before .before .before .loop-test .taken)),
-)
+returns c =
+    let at-end = c .before .before .before in
+    let turn = at-end .before .before .before in
+    let seeking = turn .before .loop .inv in (
+      hit _ _ seeking (turn .loop-test .taken) (at-end .end-of .ensures) (sym (c .before .has-key .ensures) ∙ c .if2 .taken),
+      bounds at-end,
+    )
 
 loop-less : tie.Need-loop-less Inv-loop μ-loop
-loop-less c = omega (arith, c .before .before .before .end-of .ensures, from-length (c .before .before .before .before .before .before .before .before .before .before .before .args .s .now) (c .before .before .before .before .before .before .before .loop .at) (c .before .before .before .before .before .before .loop-test .taken))
+loop-less c = omega (arith, bounds (c .before .before .before))
 
 loop-again : tie.Need-loop-again Inv-loop μ-loop
-loop-again c = (
-  c .before .before .before .before .before .before .before .loop .inv .0
-      ∙ search-miss (c .before .before .before .before .before .before .before .before .before .before .before .args .key .now) (c .before .before .before .before .before .before .before .before .before .before .before .args .s .now) (c .before .before .before .before .before .before .before .loop .at) (c .before .before .before .before .before .before .loop-test .taken) (keyed (c .before) ∙ c .if2 .left)
-      ∙ ap (λ (e : ℕ). firstWhere (hasKey (c .before .before .before .before .before .before .before .before .before .before .before .args .key .now)) (recordsOf (drop e (c .before .before .before .before .before .before .before .before .before .before .before .args .s .now)))) (sym (c .before .before .before .end-of .ensures)),
-  omega (arith, c .before .before .before .end-of .ensures, from-length (c .before .before .before .before .before .before .before .before .before .before .before .args .s .now) (c .before .before .before .before .before .before .before .loop .at) (c .before .before .before .before .before .before .loop-test .taken)),
-  fresh (c .before .before .before .before) .0,
-)
+loop-again c =
+    let at-end = c .before .before .before in
+    let turn = at-end .before .before .before in
+    miss _ _ (turn .before .loop .inv) (turn .loop-test .taken) (at-end .end-of .ensures) (sym (c .before .has-key .ensures) ∙ c .if2 .left) _
+    (fresh-size (at-end .before))
 
 returns-2 : tie.Need-returns-2 Inv-loop μ-loop
-returns-2 c = (sym (c .before .loop .inv .0 ∙ search-end (c .before .before .before .before .before .args .key .now) (c .before .before .before .before .before .args .s .now) (c .before .loop .at) (c .loop-test .left)), tt)
+returns-2 c = (ended _ _ (c .before .loop .inv) (c .loop-test .left), tt)
 
 pub find-record-spec : {M : Type 1} → statement M
 find-record-spec =
@@ -88,15 +71,15 @@ find-record-spec =
     (tie.spec
     Inv-loop
     μ-loop
-    record-size-requires
+    (λ c κs. tt)
     loop-holds
-    shared-slice-read-first
-    record-size-requires-2
+    (λ c. omega arith)
+    (λ c κs. tt)
     end-of-requires
-    sub-has-key
-    part-has-key-start
-    part-has-key-end
-    has-key-requires
+    (λ c. omega (arith, c .end-of .ensures))
+    (λ c. omega (arith, c .end-of .ensures))
+    (λ c. omega (arith, bounds c))
+    (λ c κs. tt)
     returns
     loop-less
     loop-again

@@ -1,6 +1,6 @@
 -- The byte moved down and masked, or 0 past the end.
 use borrow.Author.Needs.{needs}
-use Rattle.report.proofs.BitsLaws.{bit-masked, bit-past}
+use Rattle.report.proofs.bits.Laws.{bit-masked, bit-past}
 use Rattle.report.proofs.bits.bit_at.Statement.{statement}
 use Rattle.report.proofs.bits.bit_at.Tie as tie
 

@@ -5,7 +5,7 @@ use native.Mathlib.Omega.{arith}
 use borrow.Author.Needs.{needs}
 use borrow.Author.Tests.{leb-true}
 use Rattle.report.specs.Bits.{cut}
-use Rattle.report.proofs.BitsLaws.{bit-lt, cut-next, cut-below, cut-byte}
+use Rattle.report.proofs.bits.Laws.{bit-lt, cut-next, cut-below, cut-byte}
 use Rattle.report.proofs.bits.cut_bits.Statement.{statement}
 use Rattle.report.proofs.bits.cut_bits.Tie as tie
 
@@ -30,9 +30,10 @@ sub-if2 c = search needs
 
 mul-raw : tie.Need-mul-raw Inv-loop μ-loop
 mul-raw c =
-    let a = c .before .before .before .before .before .args in
+    let start = c .before .before .before .before .before in
+    let a = start .args in
     let w = c .before .before .before .loop .w in
-    omega (arith, cut-below (a .s .now) (a .at) w 24 (omega (arith, leb-true 8 (a .width - w) (c .if2 .taken), c .before .before .before .before .before .pre .1)))
+    omega (arith, cut-below (a .s .now) (a .at) w 24 (omega (arith, leb-true 8 (a .width - w) (c .if2 .taken), start .pre .1)))
 
 byte-at-requires : tie.Need-byte-at-requires Inv-loop μ-loop
 byte-at-requires c κs = search needs
@@ -42,9 +43,10 @@ cast-raw c = search needs
 
 add-raw : tie.Need-add-raw Inv-loop μ-loop
 add-raw c =
-    let a = c .before .before .before .before .before .before .args in
+    let start = c .before .before .before .before .before .before in
+    let a = start .args in
     let w = c .before .before .before .before .loop .w in
-    omega (arith, cut-below (a .s .now) (a .at) w 24 (omega (arith, leb-true 8 (a .width - w) (c .before .if2 .taken), c .before .before .before .before .before .before .pre .1)))
+    omega (arith, cut-below (a .s .now) (a .at) w 24 (omega (arith, leb-true 8 (a .width - w) (c .before .if2 .taken), start .pre .1)))
 
 add-w : tie.Need-add-w Inv-loop μ-loop
 add-w c = search needs

@@ -1,37 +1,42 @@
--- The form and the width decide before the bits are cut.
-use mathlib.Core.Path.{sym, ap, _∙_, subst}
+-- By the form and the width, then by the form alone.
+use borrow.Author.Needs.{needs}
+use mathlib.Core.Path.{sym, ap, _∙_}
 use Prim.Native.Nat.{_<_, _^_}
 use native.Mathlib.Omega.{arith}
-use Rattle.report.specs.Bits.{cut}
 use Rattle.report.specs.Scaling.{formLine}
-use Rattle.report.specs.Contracts.{holdsNumber}
-use Rattle.report.proofs.BitsLaws.{cut-lt}
-use Rattle.report.proofs.ItemLaws.{form-high, form-wide, form-holds}
-use borrow.Author.Needs.{needs}
+use Rattle.report.proofs.bits.Laws.{cut-lt}
+use Rattle.report.proofs.scaling.Laws.{form-high, form-wide}
 use Rattle.report.proofs.items.known_line.Statement.{statement}
 use Rattle.report.proofs.items.known_line.Tie as tie
+use Rattle.report.proofs.items.known_line.Reads as reads
+use Rattle.report.proofs.items.known_line.Lts as lts
+use Rattle.report.proofs.bits.cut_bits.Reads as cut-bits-reads
+use Rattle.report.proofs.scaling.form_line.Reads as form-line-reads
 
 returns : tie.Need-returns
-returns c = (sym (form-high (c .before .before .args .form) (c .before .before .args .width) (c .before .before .args .slot) (cut (c .before .before .args .items .now) (c .before .before .args .at) (c .before .before .args .width)) (c .if1 .taken)), tt)
+returns c =
+    let a = c .before .before .args in
+    sym (form-high (a .form) (a .width) (a .slot) _ (c .if1 .taken))
 
 returns-2 : tie.Need-returns-2
-returns-2 c = (sym (form-wide (c .before .before .before .args .form) (c .before .before .before .args .width) (c .before .before .before .args .slot) (cut (c .before .before .before .args .items .now) (c .before .before .before .args .at) (c .before .before .before .args .width)) (c .before .if1 .left) (c .if2 .taken)), tt)
+returns-2 c =
+    let a = c .before .before .before .args in
+    sym (form-wide (a .form) (a .width) (a .slot) _ (omega (arith, c .before .if1 .left)) (c .if2 .taken))
 
 cut-bits-requires : tie.Need-cut-bits-requires
 cut-bits-requires c κs = search needs
 
 form-line-requires : tie.Need-form-line-requires
 form-line-requires c κs =
-    let pre = c .before .before .before .before .pre in
-    (c .before .before .if1 .left, pre .1, pre .2, c .before .if2 .left, rw (c .cut-bits .ensures) (cut-lt (c .before .before .before .before .args .items .now) (c .before .before .before .before .args .at) (c .before .before .before .before .args .width)))
+    let start = c .before .before .before .before in
+    let a = start .args in
+    let small : c .cut-bits .result < 2 ^ a .width = omega (arith, c .cut-bits .ensures, cut-lt (a .bytes .now) (a .at) (a .width)) in
+    (omega (arith, c .before .before .if1 .left), start .pre .1, start .pre .2, omega (arith, c .before .if2 .left), small)
 
 returns-3 : tie.Need-returns-3
 returns-3 c =
-    let pre = c .before .before .before .before .before .pre in
-    let small : c .before .before .before .before .before .args .slot .divisor < 2 ^ 16 = omega arith in (
-      c .form-line .ensures ∙ ap (formLine (c .before .before .before .before .before .args .form) (c .before .before .before .before .before .args .width) (c .before .before .before .before .before .args .slot)) (c .before .cut-bits .ensures),
-      subst holdsNumber (sym (c .form-line .ensures)) (form-holds (c .before .before .before .before .before .args .form) (c .before .before .before .before .before .args .width) (c .before .before .before .before .before .args .slot) (c .before .cut-bits .result) (pre .3) small),
-    )
+    let a = c .before .before .before .before .before .args in
+    c .form-line .ensures ∙ ap (formLine (a .form) (a .width) (a .slot)) (c .before .cut-bits .ensures)
 
 pub known-line-spec : {M : Type 1} → statement M
 known-line-spec =

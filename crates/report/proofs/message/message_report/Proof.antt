@@ -1,94 +1,132 @@
 -- The group's lines and the response's are the report's.
-use mathlib.Core.Path.{ap, _∙_}
+use mathlib.Core.Path.{_≡_, sym, ap, _∙_, subst}
+use mathlib.Core.Bool.{false}
 use mathlib.Core.List.{List, [], _∷_, _++_}
-use Prim.Native.Nat.{ℕ, _+_, _≤_}
+use Prim.Native.Nat.{ℕ, _+_, _*_, _≤_}
 use native.Mathlib.Omega.{arith}
-use lib.ListN.{length, length-append, length-drop}
+use lib.ListN.{length, length-append}
 use borrow.Author.Needs.{needs}
+use Rattle.catalogue.specs.declared.lookup.LayoutFound.{LayoutFound}
+use Rattle.catalogue.specs.Record.{MostPrns}
+use Rattle.catalogue.specs.Supplement.{recordsOf}
 use Rattle.catalogue.specs.Lookup.{catalogue, layoutOf}
-use Rattle.report.specs.Report.{groupOf, groupLines}
+use Rattle.catalogue.proofs.lookup.Laws.{layout-told, layout-sized, layout-sixteen}
 use Rattle.report.specs.declared.line.Line.{Line}
-use Rattle.report.specs.Contracts.{firstLines, Tallies}
-use Rattle.report.proofs.ItemLaws.{numbers-snoc, report-lines}
-use Rattle.report.proofs.RowsLaws.{first-length}
-use Rattle.report.proofs.TallyLaws.{one-tallied, tally-small}
-use Rattle.report.proofs.VerdictLaws.{verdict-is}
+use Rattle.report.specs.Report.{Part, present, soughtKey, groupOf, groupLines}
+use Rattle.report.specs.Contracts.{linesIn, Shows}
+use Rattle.report.proofs.tally.Laws.{tally-small}
+use Rattle.report.proofs.lines.Laws.{shows-own, shows-more}
+use Rattle.report.proofs.message.Laws.{present-within, items-most, group-count, report-lines}
 use Rattle.report.proofs.message.message_report.Statement.{statement}
 use Rattle.report.proofs.message.message_report.Tie as tie
 
 sought-requires : tie.Need-sought-requires
 sought-requires c κs = search needs
 
-items-of-requires : tie.Need-items-of-requires
-items-of-requires c κs = search needs
+present-in-requires : tie.Need-present-in-requires
+present-in-requires c κs = search needs
 
-group-of-requires : tie.Need-group-of-requires
-group-of-requires c κs =
-    let pre = c .before .before .before .before .pre in
-    let body = c .before .before .before .before .args .body .now in
-    (pre .0, omega (arith, pre .1, ap length (c .items-of .ensures) ∙ length-drop 1 body), c .before .sought .ensures .1 .0, c .before .sought .ensures .1 .1, c .before .sought .ensures .1 .2)
+cast-from : tie.Need-cast-from
+cast-from c = search needs
+
+mul-from : tie.Need-mul-from
+mul-from c = search needs
+
+mul-to : tie.Need-mul-to
+mul-to c = search needs
+
+empty-requires : tie.Need-empty-requires
+empty-requires c κs = search needs
+
+-- at most so many PRNs, and none without a layout
+abbrev Sized : LayoutFound → Type 0
+Sized l = (l .count ≤ MostPrns) × (length (l .prns) ≡ MostPrns) × (l .found ≡ false → l .count ≡ 0)
+
+with-group-requires : tie.Need-with-group-requires
+with-group-requires c κs =
+    let start = c .before .before .before .before .before .before in
+    let body = start .args .body .now in
+    let from : 8 * c .before .present-in .result ≡ 8 * present body = ap (λ (n : ℕ). 8 * n) (c .before .present-in .ensures) in
+    let layout = subst Sized (sym (c .before .before .sought .ensures)) (layout-sized _) in
+    let none = c .empty .ensures in (
+      (start .pre .0, omega (arith, from, present-within body), omega (arith, start .pre .1)),
+      (layout, (shows-own (c .empty .result) [] none, omega (arith, none .count, layout .0))),
+    )
 
 response-line-requires : tie.Need-response-line-requires
 response-line-requires c κs = search needs
 
--- the lines of the group, and of the whole report
-abbrev groupOfCall : tie.After-tally → List Line
-groupOfCall c = let group = c .before .before .before .group-of .result in firstLines (group .count) (group .lines) ++ group .remainder ∷ []
+-- what the supplement has of the layout
+told :
+    (c : tie.After-sought)
+    → let a = c .before .before .before .before .args in
+    layoutOf (c .sought .result) ≡ catalogue (a .s .now) .layout (soughtKey (a .header .now) (a .body .now))
+told c =
+    let a = c .before .before .before .before .args in
+    ap layoutOf (c .sought .ensures) ∙ layout-told (a .s .now) (soughtKey (a .header .now) (a .body .now))
 
-few : (c : tie.After-tally) → length (groupOfCall c) ≤ 17
+-- the part that the group is read from
+abbrev part : tie.After-with-group → Part
+part c =
+    let body = c .before .before .before .before .before .before .before .args .body .now in
+    record { bytes = body; from = 8 * c .before .before .present-in .result; to = 8 * length body; prns = λ l. l .prns }
+
+few : (c : tie.After-with-group) → c .with-group .result .count ≤ MostPrns + 1
 few c =
-    let group = c .before .before .before .group-of in
-    omega (arith, length-append (firstLines (group .result .count) (group .result .lines)) (group .result .remainder ∷ []), first-length (group .result .count) (group .result .lines), group .ensures .1 .0 .0)
+    let at = c .before .before .before in
+    let a = at .before .before .before .before .args in
+    let cat = catalogue (a .s .now) in
+    let o = layoutOf (at .sought .result) in
+    let lines : List Line = groupLines (groupOf cat o (part c) ∷ []) in
+    let sixteen = items-most cat o (part c) MostPrns (λ l e. layout-sixteen (recordsOf (a .s .now)) _ l (sym (told at) ∙ e)) in
+    let empty : length (linesIn (c .before .empty .result)) ≡ 0 = ap length (c .before .empty .ensures .lines) in
+    omega (arith, c .with-group .ensures .count, length-append (linesIn (c .before .empty .result)) lines, empty, group-count cat o (part c), sixteen)
+
+mul-held : tie.Need-mul-held
+mul-held c = omega (arith, few (c .before .before), c .before .before .with-group .ensures .room)
+
+array-set-from-held : tie.Need-array-set-from-held
+array-set-from-held c = omega (arith, few (c .before .before), c .before .before .with-group .ensures .room)
+
+add-t13 : tie.Need-add-t13
+add-t13 c = omega (arith, few (c .before .before))
 
 tallied-requires : tie.Need-tallied-requires
-tallied-requires c κs = tally-small (groupOfCall c) (c .before .before .before .group-of .ensures .1 .1 .1) (omega (arith, few c))
-
-all : (c : tie.After-tallied) → Tallies (c .tallied .result) (groupOfCall (c .before) ++ c .before .before .response-line .result ∷ [])
-all c = one-tallied (groupOfCall (c .before)) (c .before .before .before .before .group-of .ensures .1 .1 .1) (c .tallied .ensures)
-
-verdict-of-requires : tie.Need-verdict-of-requires
-verdict-of-requires c κs = search needs
-
-add-t16 : tie.Need-add-t16
-add-t16 c =
-    let at = c .before .before in
-    let lines = groupOfCall (at .before) in
-    omega (arith, tally-small (lines ++ c .before .before .before .before .response-line .result ∷ []) (all at) (omega (arith, few (at .before), length-append lines (c .before .before .before .before .response-line .result ∷ []))))
+tallied-requires c κs =
+    let shows = c .before .before .with-group .ensures in
+    tally-small _ (shows .tally) (omega (arith, shows .count, few (c .before .before)))
 
 returns : tie.Need-returns
 returns c =
-    let args = c .before .before .before .before .before .before .before .before .before .before .before .args in
-    let group = c .before .before .before .before .before .before .group-of in
-    let response = c .before .before .before .before .response-line in
-    let tally = all (c .before .before) in
-    let lines = groupOfCall (c .before .before .before) ++ response .result ∷ [] in
-    let items = firstLines (group .result .count) (group .result .lines) in
-    let layout = c .before .before .before .before .before .before .before .before .sought in (
-      report-lines (catalogue (args .s .now)) (record { first = args .first; target = args .target; body = args .body .now; kind = args .kind })
-          (layoutOf (layout .result)) (items ++ group .result .remainder ∷ []) (response .result) (layout .ensures .0)
-          (group .ensures .0 ∙ ap (λ (bs : List ℕ). groupLines (groupOf (catalogue (args .s .now)) bs (layoutOf (layout .result)) ∷ [])) (c .before .before .before .before .before .before .before .items-of .ensures))
-          (response .ensures .0),
-      (
-        c .before .verdict-of .ensures ∙ verdict-is lines (c .before .before .tallied .result .flagged) (c .before .before .tallied .result .unknown) (tally .flagged) (tally .unknown),
-        (
-          group .ensures .1 .0,
-          (
-            numbers-snoc (items ++ group .result .remainder ∷ []) (response .result) (numbers-snoc items (group .result .remainder) (group .ensures .1 .1 .0 .0) (group .ensures .1 .1 .0 .1)) (response .ensures .1),
-            ap (λ (n : ℕ). n + 2) (tally .size),
-          ),
-        ),
-      ),
-    )
+    let at = c .before .before .before in
+    let response = c .before .before .response-line in
+    let a = at .before .before .before .before .before .before .before .args in
+    let cat = catalogue (a .s .now) in
+    let o = layoutOf (at .before .before .before .sought .result) in
+    let group = at .with-group in
+    let lines : linesIn (group .result) ≡ groupLines (groupOf cat o (part at) ∷ []) =
+    group .ensures .lines ∙ ap (λ (ls : List Line). ls ++ groupLines (groupOf cat o (part at) ∷ [])) (at .before .empty .ensures .lines) in
+    let from : 8 * at .before .before .present-in .result ≡ 8 * present (a .body .now) =
+    ap (λ (n : ℕ). 8 * n) (at .before .before .present-in .ensures) in
+    subst (Shows _)
+    (report-lines cat (a .header .now) (a .body .now) (a .kind) o _ (linesIn (group .result)) (response .result)
+    (told (at .before .before .before)) from lines (response .ensures))
+    (shows-more (group .result) (linesIn (group .result)) (response .result) (shows-own _ _ (group .ensures)) (omega (arith, few at)) (c .tallied .ensures))
 
 pub message-report-spec : {M : Type 1} → statement M
 message-report-spec =
     tie.close
     (tie.spec
     sought-requires
-    items-of-requires
-    group-of-requires
+    present-in-requires
+    cast-from
+    mul-from
+    mul-to
+    empty-requires
+    with-group-requires
     response-line-requires
+    mul-held
+    array-set-from-held
+    add-t13
     tallied-requires
-    verdict-of-requires
-    add-t16
     returns)

@@ -1,92 +1,132 @@
--- The rows are put one behind the other, the verdict's last.
-use mathlib.Core.Path.{sym, ap, _∙_}
-use mathlib.Core.List.{List, [], _∷_, _++_}
-use Prim.Native.Nat.{ℕ, _≤_, _+_}
+-- After i turns the rows of the first i lines stand one behind the other; the verdict's comes behind them.
+use mathlib.Core.Path.{_≡_, ap, _∙_}
+use mathlib.Core.List.{List, _++_}
+use Prim.Native.Nat.{ℕ, _-_, _≤_}
 use native.Mathlib.Omega.{arith}
-use lib.ListN.{length, length-append}
+use lib.ListN.{length}
 use borrow.Author.Needs.{needs}
 use Rattle.frame.specs.Bytes.{placed}
-use Rattle.report.specs.declared.message.Report.{Report}
-use Rattle.report.specs.Rows.{row, rowsOf}
-use Rattle.report.specs.Contracts.{holdsNumber, allHold, firstLines, shownLines}
-use Rattle.report.proofs.RowsLaws.{holds-ends, rows-ends, ends-length, Put, room-behind, put-next}
+use Rattle.frame.proofs.bytes.Placed.{joined}
+use Rattle.report.specs.Rows.{rowsOf, verdictRow}
+use Rattle.report.specs.Contracts.{linesIn}
+use Rattle.report.proofs.verdict.Laws.{verdict-told}
+use Rattle.report.proofs.lines.Laws.{shows-most}
+use Rattle.report.proofs.rows.Laws.{holds-line, Laid, none-laid, length-laid, room-next, one-laid, all-laid}
 use Rattle.report.proofs.rows.put_report.Statement.{statement}
 use Rattle.report.proofs.rows.put_report.Tie as tie
 
--- The rows of a report's item lines, with the remainder's, and with the response's.
-abbrev itemRows : Report → List ℕ
-itemRows r = rowsOf (firstLines (r .count) (r .lines))
+abbrev Inv-loop : tie.InvT-loop
+Inv-loop out₀ report end₀ i₀ out end i = Laid (report .held) (report .count) out₀ out end i
 
-abbrev groupRows : Report → List ℕ
-groupRows r = itemRows r ++ row (r .remainder)
+abbrev μ-loop : tie.MeasureT-loop
+μ-loop out₀ report end₀ i₀ out end i = report .count - i
 
-abbrev lineRows : Report → List ℕ
-lineRows r = groupRows r ++ row (r .response)
+module _ (c : tie.Start Inv-loop μ-loop) where
+  within : c .args .t1 .count ≤ length (c .args .t1 .held)
+  within = omega (arith, c .pre .0 .room, shows-most (c .args .t1) (linesIn (c .args .t1)) (c .pre .0))
 
--- All of them have room where the whole report has, and two bytes more.
-record Room (r : Report) (n : ℕ) : Type 0 where
-  pub items : length (itemRows r) + length (row (r .remainder)) ≤ n
-  pub group : length (groupRows r) + length (row (r .response)) ≤ n
-  pub lines : length (lineRows r) + 2 ≤ n
+  fits : length (rowsOf (linesIn (c .args .t1))) ≤ length (c .args .out .now)
+  fits = omega (arith, c .pre .2)
 
-room : (r : Report) (n : ℕ) → length (rowsOf (shownLines r)) + 2 ≤ n → Room r n
-room r n h =
-    let size = ends-length (firstLines (r .count) (r .lines)) (r .remainder) (r .response) in
-    let two = length-append (itemRows r) (row (r .remainder)) in
-    record { items = omega (arith, size); group = omega (arith, size, two); lines = omega (arith, size, two, length-append (groupRows r) (row (r .response))) }
+loop-holds : tie.Need-loop-holds Inv-loop μ-loop
+loop-holds c = let a = c .before .args in none-laid (a .t1 .held) (a .t1 .count) (a .out .now)
 
-holds : (r : Report) → allHold (shownLines r) → allHold (firstLines (r .count) (r .lines)) × holdsNumber (r .remainder) × holdsNumber (r .response)
-holds r h = holds-ends (firstLines (r .count) (r .lines)) (r .remainder) (r .response) h
-
-put-lines-requires : tie.Need-put-lines-requires
-put-lines-requires c κs =
+mul-h : tie.Need-mul-h Inv-loop μ-loop
+mul-h c =
     let start = c .before .before .before in
-    (start .pre .0, holds (start .args .report) (start .pre .1) .0, omega (arith, room (start .args .report) _ (start .pre .2) .items))
+    omega (arith, within start, c .loop-test .taken, start .pre .0 .room)
 
-lines-put : (c : tie.After-put-lines) → Put (c .before .before .before .before .args .out .now) (itemRows (c .before .before .before .before .args .report)) (c .put-lines .last .1 .1 .0) (c .put-lines .result)
-lines-put c = record { bytes = c .put-lines .ensures .0; behind = c .put-lines .ensures .1 }
+element-copy-out-h : tie.Need-element-copy-out-h Inv-loop μ-loop
+element-copy-out-h c =
+    let start = c .before .before .before in
+    omega (arith, within start, c .loop-test .taken, start .pre .0 .room)
 
-put-row-requires : tie.Need-put-row-requires
+put-row-requires : tie.Need-put-row-requires Inv-loop μ-loop
 put-row-requires c κs =
-    let start = c .before .before .before .before .before .before .before in
-    (holds (start .args .report) (start .pre .1) .1, room-behind _ _ (lines-put (c .before .before .before)) _ (room (start .args .report) _ (start .pre .2) .items))
+    let start = c .before .before .before .before .before in
+    let report = start .args .t1 in
+    let loop = c .before .before .before .loop in
+    let more = c .before .before .loop-test .taken in (
+      holds-line (report .held) (report .count) (loop .i) more (within start) (start .pre .1),
+      room-next (report .held) (report .count) (start .args .out .now) (within start) (fits start) (loop .out) (loop .end) (loop .i) more (loop .inv),
+    )
 
-remainder-put : (c : tie.After-put-row) → Put (c .before .before .before .before .before .before .before .before .args .out .now) (groupRows (c .before .before .before .before .before .before .before .before .args .report)) (c .put-row .last .1 .0) (c .put-row .result)
-remainder-put c =
-    put-next _ _ (lines-put (c .before .before .before .before)) (row (c .before .before .before .before .before .before .before .before .args .report .remainder)) (c .put-row .ensures .0) (c .put-row .ensures .1)
-    (omega (arith, room (c .before .before .before .before .before .before .before .before .args .report) _ (c .before .before .before .before .before .before .before .before .pre .2) .items))
+add-i : tie.Need-add-i Inv-loop μ-loop
+add-i c =
+    let start = c .before .before .before .before .before .before .before .before in
+    omega (arith, within start, c .before .before .before .before .before .loop-test .taken, start .pre .0 .room)
 
-put-row-requires-2 : tie.Need-put-row-requires-2
-put-row-requires-2 c κs =
-    let start = c .before .before .before .before .before .before .before .before .before .before .before in
-    (holds (start .args .report) (start .pre .1) .2, room-behind _ _ (remainder-put (c .before .before .before)) _ (room (start .args .report) _ (start .pre .2) .group))
+loop-less : tie.Need-loop-less Inv-loop μ-loop
+loop-less c = omega (arith, c .before .before .before .before .before .loop-test .taken)
 
-response-put : (c : tie.After-put-row2) → Put (c .before .before .before .before .before .before .before .before .before .before .before .before .args .out .now) (lineRows (c .before .before .before .before .before .before .before .before .before .before .before .before .args .report)) (c .put-row2 .last .1 .0) (c .put-row2 .result)
-response-put c =
-    put-next _ _ (remainder-put (c .before .before .before .before)) (row (c .before .before .before .before .before .before .before .before .before .before .before .before .args .report .response)) (c .put-row2 .ensures .0) (c .put-row2 .ensures .1)
-    (omega (arith, room (c .before .before .before .before .before .before .before .before .before .before .before .before .args .report) _ (c .before .before .before .before .before .before .before .before .before .before .before .before .pre .2) .group))
+loop-again : tie.Need-loop-again Inv-loop μ-loop
+loop-again c =
+    let turn = c .before .before .before .before .before in
+    let loop = turn .before .loop in
+    let start = turn .before .before .before in
+    let report = start .args .t1 in
+    one-laid (report .held) (report .count) (start .args .out .now) (within start) (fits start) (loop .out) (loop .end) (loop .i)
+    (turn .loop-test .taken)
+    (loop .inv)
+    (c .before .before .put-row .ensures)
 
-put-byte-requires : tie.Need-put-byte-requires
-put-byte-requires c κs = room-behind _ _ (response-put (c .before .before .before)) 2 (room (c .before .before .before .before .before .before .before .before .before .before .before .before .before .before .before .args .report) _ (c .before .before .before .before .before .before .before .before .before .before .before .before .before .before .before .pre .2) .lines)
+-- all lines' rows stand there
+laid :
+    (c : tie.After-loop Inv-loop μ-loop)
+    → let a = c .before .before .before .args in
+    let rows = rowsOf (linesIn (a .t1)) in
+    (c .before .loop .out ≡ placed (a .out .now) 0 rows) × (c .before .loop .end ≡ length rows)
+laid c =
+    let start = c .before .before .before in
+    let report = start .args .t1 in
+    let loop = c .before .loop in
+    all-laid (report .held) (report .count) (start .args .out .now) (within start) (fits start) (loop .out) (loop .end) (loop .i)
+    (c .loop-test .left)
+    (loop .inv)
 
-same-length : tie.Need-same-length
-same-length c = search needs
+kept : (c : tie.After-loop Inv-loop μ-loop) → length (c .before .loop .out) ≡ length (c .before .before .before .args .out .now)
+kept c =
+    let start = c .before .before .before in
+    let report = start .args .t1 in
+    let loop = c .before .loop in
+    length-laid (report .held) (report .count) (start .args .out .now) (within start) (fits start) (loop .out) (loop .end) (loop .i) (loop .inv)
 
-returns : tie.Need-returns
+verdict-of-requires : tie.Need-verdict-of-requires Inv-loop μ-loop
+verdict-of-requires c κs = search needs
+
+put-byte-requires : tie.Need-put-byte-requires Inv-loop μ-loop
+put-byte-requires c κs =
+    let end = c .before .before .before in
+    omega (arith, end .before .before .before .pre .2, laid end .1, kept end)
+
+same-length : tie.Need-same-length Inv-loop μ-loop
+same-length c = c .before .before .put-byte .kept .1 .1 .0 ∙ kept (c .before .before .before .before .before .before)
+
+returns : tie.Need-returns Inv-loop μ-loop
 returns c =
-    let report = c .before .before .before .before .before .before .before .before .before .before .before .before .before .before .before .before .before .before .args .report in
-    let out = c .before .before .before .before .before .before .before .before .before .before .before .before .before .before .before .before .before .before .args .out .now in
-    put-next _ _ (response-put (c .before .before .before .before .before .before)) (11 ∷ report .verdict ∷ []) (c .before .before .put-byte .ensures .0) (c .before .before .put-byte .ensures .1)
-    (omega (arith, room report _ (c .before .before .before .before .before .before .before .before .before .before .before .before .before .before .before .before .before .before .pre .2) .lines)) .bytes
-    ∙ ap (λ (u : List ℕ). placed out 0 (u ++ 11 ∷ report .verdict ∷ [])) (sym (rows-ends (firstLines (report .count) (report .lines)) (report .remainder) (report .response)))
+    let end = c .before .before .before .before .before .before in
+    let start = end .before .before .before in
+    let report = start .args .t1 in
+    let out = start .args .out .now in
+    let rows : List ℕ = rowsOf (linesIn report) in
+    joined out 0 rows _ (laid end .0) (c .before .before .put-byte .ensures .0) (omega (arith, laid end .1)) (omega (arith, fits start))
+    ∙ ap (λ (v : ℕ). placed out 0 (rows ++ verdictRow v))
+    (c .before .before .before .before .verdict-of .ensures ∙ verdict-told (linesIn report) (start .pre .0 .tally))
 
 pub put-report-spec : {M : Type 1} → statement M
 put-report-spec =
     tie.close
     (tie.spec
-    put-lines-requires
+    Inv-loop
+    μ-loop
+    loop-holds
+    mul-h
+    element-copy-out-h
     put-row-requires
-    put-row-requires-2
+    add-i
+    loop-less
+    loop-again
+    verdict-of-requires
     put-byte-requires
     same-length
     returns)

@@ -7,7 +7,7 @@ use lib.Signed.{mag}
 use mir.Syntax.{w64}
 use mir.Val.{SFits, toZ, ofZ}
 use Rattle.report.specs.Scaling.{rawNumber, above}
-use Rattle.report.proofs.ScalingLaws.{reread, result-is, reread-pos, product-small, above-small}
+use Rattle.report.proofs.scaling.Laws.{reread, result-is, reread-pos, product-small, above-small}
 use borrow.Author.Needs.{needs}
 use Rattle.report.proofs.scaling.above_line.Statement.{statement}
 use Rattle.report.proofs.scaling.above_line.Tie as tie

@@ -5,7 +5,7 @@ use Prim.Native.Nat.{ℕ, _-_, _%_, _≤_}
 use native.Mathlib.Omega.{arith}
 use borrow.Author.Tests.{le-leb, lt-leb}
 use Rattle.report.specs.Scaling.{digitsPass, printable}
-use Rattle.report.proofs.ScalingLaws.{digits-next, digits-broken, digits-passed}
+use Rattle.report.proofs.scaling.Laws.{digits-next, digits-broken, digits-passed}
 use Rattle.report.proofs.scaling.all_printable.Statement.{statement}
 use Rattle.report.proofs.scaling.all_printable.Tie as tie
 

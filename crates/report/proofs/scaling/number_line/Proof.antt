@@ -6,7 +6,7 @@ use lib.Ieee.{binary64, ofInt, div, inFloat}
 use lib.IntN.{ℤ, pos}
 use Rattle.report.specs.declared.line.Line.the-variants.{Number}
 use Rattle.report.specs.Scaling.{above, numberLine}
-use Rattle.report.proofs.ScalingLaws.{result-is, above-small, in-float}
+use Rattle.report.proofs.scaling.Laws.{result-is, above-small, in-float}
 use borrow.Author.Needs.{needs}
 use Rattle.report.proofs.scaling.number_line.Statement.{statement}
 use Rattle.report.proofs.scaling.number_line.Tie as tie

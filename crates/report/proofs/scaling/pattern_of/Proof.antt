@@ -2,7 +2,7 @@
 use mathlib.Core.Path.{sym, ap, _∙_}
 use Prim.Native.Nat.{ℕ, _+_, _-_, _^_}
 use native.Mathlib.Omega.{arith}
-use Rattle.report.proofs.ScalingLaws.{Size, size-of, pattern-filled, pattern-small, pattern-other}
+use Rattle.report.proofs.scaling.Laws.{Size, size-of, pattern-filled, pattern-small, pattern-other}
 use borrow.Author.Needs.{needs}
 use Rattle.report.proofs.scaling.pattern_of.Statement.{statement}
 use Rattle.report.proofs.scaling.pattern_of.Tie as tie

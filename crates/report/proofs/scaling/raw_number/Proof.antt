@@ -2,7 +2,7 @@
 use mathlib.Core.Path.{ap, _∙_}
 use native.Mathlib.Omega.{arith}
 use Rattle.report.specs.Scaling.{signed}
-use Rattle.report.proofs.ScalingLaws.{result-is, reread-pos, raw-signed, raw-plain}
+use Rattle.report.proofs.scaling.Laws.{result-is, reread-pos, raw-signed, raw-plain}
 use borrow.Author.Needs.{needs}
 use Rattle.report.proofs.scaling.raw_number.Statement.{statement}
 use Rattle.report.proofs.scaling.raw_number.Tie as tie

@@ -6,7 +6,7 @@ use lib.IntN.{ℤ, pos, _-ℤ_}
 use mir.Syntax.{w64}
 use mir.Val.{SFits, toZ}
 use Rattle.report.specs.Scaling.{signed}
-use Rattle.report.proofs.ScalingLaws.{reread, reread-pos, signed-low, signed-high, signed-mag}
+use Rattle.report.proofs.scaling.Laws.{reread, reread-pos, signed-low, signed-high, signed-mag}
 use borrow.Author.Needs.{needs}
 use Rattle.report.proofs.scaling.signed_of.Statement.{statement}
 use Rattle.report.proofs.scaling.signed_of.Tie as tie

@@ -3,7 +3,7 @@ use mathlib.Core.Path.{_≡_, sym, ap, _∙_}
 use Prim.Native.Nat.{ℕ}
 use borrow.Author.Tests.{not-true, not-false}
 use Rattle.catalogue.specs.Rows.{inOrder}
-use Rattle.report.proofs.ScalingLaws.{below-lowest, not-below}
+use Rattle.report.proofs.scaling.Laws.{below-lowest, not-below}
 use borrow.Author.Needs.{needs}
 use Rattle.report.proofs.scaling.within_limits.Statement.{statement}
 use Rattle.report.proofs.scaling.within_limits.Tie as tie

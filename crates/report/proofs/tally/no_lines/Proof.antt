@@ -1,13 +1,16 @@
--- No line flags, none is Unknown, and none has a row.
+-- No line adds nothing.
 use mathlib.Core.Path.{refl}
-use Rattle.report.specs.Report.{any}
+use Rattle.report.specs.Verdict.{any}
 use Rattle.report.specs.Rows.{rowsOf}
+use Rattle.report.specs.Contracts.{tallyOf}
 use Rattle.report.proofs.tally.no_lines.Statement.{statement}
 use Rattle.report.proofs.tally.no_lines.Tie as tie
+use Rattle.report.proofs.tally.no_lines.Reads as reads
+use Rattle.report.proofs.tally.no_lines.Lts as lts
 
 returns : tie.Need-returns
-unfolding any rowsOf
-returns c = record { flagged = refl; unknown = refl; size = refl }
+unfolding tallyOf any rowsOf
+returns c = refl
 
 pub no-lines-spec : {M : Type 1} → statement M
 no-lines-spec = tie.close (tie.spec returns)

@@ -1,47 +1,48 @@
 -- Each mark with the line's own, and the size of its row.
-use mathlib.Core.Path.{ap, _∙_}
+use borrow.Author.Needs.{needs}
+use mathlib.Core.Path.{_≡_, ap, _∙_}
 use mathlib.Core.Bool.{Bool, _||_}
 use Prim.Native.Nat.{ℕ, _+_}
+use lib.ListN.{length}
 use native.Mathlib.Omega.{arith}
-use Rattle.report.proofs.RowsLaws.{row-nine}
-use borrow.Author.Needs.{needs}
+use Rattle.report.specs.declared.tally.Tally.{Tally}
+use Rattle.report.specs.Rows.{row}
+use Rattle.report.specs.Contracts.{weight}
+use Rattle.report.proofs.row.Laws.{row-nine}
 use Rattle.report.proofs.tally.tallied.Statement.{statement}
 use Rattle.report.proofs.tally.tallied.Tie as tie
+use Rattle.report.proofs.tally.tallied.Reads as reads
+use Rattle.report.proofs.tally.tallied.Lts as lts
+use Rattle.report.proofs.tally.either.Reads as either-reads
+use Rattle.report.proofs.tally.weight_of.Reads as weight-of-reads
 
-is-flagged-requires : tie.Need-is-flagged-requires
-is-flagged-requires c κs = search needs
+weight-of-requires : tie.Need-weight-of-requires
+weight-of-requires c κs = search needs
 
 either-requires : tie.Need-either-requires
 either-requires c κs = search needs
 
-is-unknown-requires : tie.Need-is-unknown-requires
-is-unknown-requires c κs = search needs
-
 either-requires-2 : tie.Need-either-requires-2
 either-requires-2 c κs = search needs
 
-row-size-requires : tie.Need-row-size-requires
-row-size-requires c κs = search needs
-
-add-t8 : tie.Need-add-t8
-add-t8 c = omega (arith, c .before .row-size .ensures, row-nine (c .before .before .before .before .before .before .args .line), c .before .before .before .before .before .before .pre)
+add-t6 : tie.Need-add-t6
+add-t6 c =
+    let start = c .before .before .before .before .before in
+    let weighed : c .before .before .before .before .weight-of .result .size ≡ length (row (start .args .line)) =
+    ap (λ (t : Tally). t .size) (c .before .before .before .before .weight-of .ensures) in
+    omega (arith, weighed, row-nine (start .args .line), start .pre)
 
 returns : tie.Need-returns
 returns c =
+    let t = c .before .before .before .before .before .args .tally in
+    let w = c .before .before .before .before .weight-of .ensures in
+    λ i.
     record {
-      flagged = c .before .before .before .before .either .ensures ∙ ap (λ (b : Bool). c .before .before .before .before .before .before .args .tally .flagged || b) (c .before .before .before .before .before .is-flagged .ensures);
-      unknown = c .before .before .either2 .ensures ∙ ap (λ (b : Bool). c .before .before .before .before .before .before .args .tally .unknown || b) (c .before .before .before .is-unknown .ensures);
-      size = ap (λ (n : ℕ). c .before .before .before .before .before .before .args .tally .size + n) (c .before .row-size .ensures);
+      flagged = (c .before .before .before .either .ensures ∙ ap (λ (u : Tally). t .flagged || u .flagged) w) i;
+      unknown = (c .before .before .either2 .ensures ∙ ap (λ (u : Tally). t .unknown || u .unknown) w) i;
+      size = t .size + w i .size;
     }
 
 pub tallied-spec : {M : Type 1} → statement M
 tallied-spec =
-    tie.close
-    (tie.spec
-    is-flagged-requires
-    either-requires
-    is-unknown-requires
-    either-requires-2
-    row-size-requires
-    add-t8
-    returns)
+    tie.close (tie.spec weight-of-requires either-requires either-requires-2 add-t6 returns)

@@ -1,0 +1,2 @@
+-- Laws of the filter of keys.
+pub mod Laws

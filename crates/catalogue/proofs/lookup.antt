@@ -1,0 +1,4 @@
+-- Laws of the lookups.
+pub mod Laws
+pub mod Own
+pub mod Prns

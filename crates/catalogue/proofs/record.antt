@@ -1,0 +1,3 @@
+-- Laws of a record: its fields, and its key.
+pub mod Laws
+pub mod Keys

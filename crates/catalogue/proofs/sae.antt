@@ -1,0 +1,2 @@
+-- Laws of the SAE tables.
+pub mod Laws

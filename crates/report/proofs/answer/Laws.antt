@@ -1,0 +1,92 @@
+-- Laws of the report's answer, by case.
+use mathlib.Core.Path.{_≡_, refl, sym, ap, _∙_}
+use mathlib.Core.List.{List, [], _∷_, _++_}
+use Prim.Native.Nat.{ℕ, _+_, _≤_, _<_}
+use native.Mathlib.Omega.{arith}
+use borrow.Author.Tests.{lt-ltb, le-ltb, eq-eqb, ne-eqb, eqb-true, eqb-false}
+use lib.Dec.{eqb, ltb}
+use lib.ListN.{length, length-append}
+use Rattle.frame.specs.Frame.{Parts}
+use Rattle.frame.specs.Bytes.{placed}
+use Rattle.frame.specs.Refusal.{OutputShort, NoRefusal, Outcome}
+use Rattle.frame.specs.Refusal as frame
+use Rattle.frame.proofs.bytes.Laws.{cases}
+use Rattle.catalogue.specs.Supplement.{check, Accepted}
+use Rattle.report.specs.declared.line.Line.{Line}
+use Rattle.report.specs.declared.tally.Tally.{Tally}
+use Rattle.report.specs.Verdict.{verdictOf}
+use Rattle.report.specs.Report.{Report, linesOf, verdict}
+use Rattle.report.specs.Rows.{rowsOf, verdictRow, reportBytes}
+use Rattle.report.specs.Answer.{Answer, refused, shown, fitted, under, answerOf, reportAnswer, outAfter, sized}
+use Rattle.report.specs.Contracts.{tallyOf}
+
+-- The rows of lines that are a report's, with their verdict.
+pub rows-told : (ls : List Line) (q : Report) → ls ≡ linesOf q → rowsOf ls ++ verdictRow (verdictOf ls) ≡ reportBytes q
+unfolding reportBytes verdict
+rows-told ls q e = λ i. rowsOf (e i) ++ verdictRow (verdictOf (e i))
+
+pub verdict-length : (rows : List ℕ) (v : ℕ) → length (rows ++ verdictRow v) ≡ length rows + 2
+verdict-length rows v = length-append rows (verdictRow v)
+
+-- How long they are, from the tally of the lines.
+pub size-told : (q : Report) {t : Tally} → t ≡ tallyOf (linesOf q) → t .size + 2 ≡ length (reportBytes q)
+unfolding reportBytes tallyOf
+size-told q e = ap (λ (t : Tally). t .size + 2) e ∙ sym (verdict-length (rowsOf (linesOf q)) (verdict q))
+
+-- An answer settles what is handed over and what is left in lent memory.
+pub settled : (a b : Answer (List ℕ)) (out : List ℕ) → a ≡ b → (sized a ≡ sized b) × (outAfter a out ≡ outAfter b out)
+settled a b out e = (ap sized e, ap (λ (x : Answer (List ℕ)). outAfter x out) e)
+
+-- Rows that do not fit lent output, and rows that do.
+pub too-long : (rows : List ℕ) (room : ℕ) → room < length rows → refused OutputShort 0 ≡ fitted room rows
+unfolding fitted
+too-long rows room h = rw (lt-ltb room (length rows) h)
+
+pub fits : (rows : List ℕ) (room : ℕ) → length rows ≤ room → shown rows ≡ fitted room rows
+unfolding fitted
+fits rows room h = rw (le-ltb room (length rows) h)
+
+refused-shown : {n place : ℕ} {rows : List ℕ} → refused n place ≡ shown rows → ⊥
+refused-shown e = let z : _≡_ {A = ℕ} 0 1 = cc in omega arith
+
+fitted-is : (room : ℕ) (rows shown-rows : List ℕ) → fitted room rows ≡ shown shown-rows → shown-rows ≡ rows
+unfolding fitted
+fitted-is room rows shown-rows e =
+    cases (ltb room (length rows)) (λ t. absurd (refused-shown (rw t at e))) (λ f. let g : shown rows ≡ shown shown-rows = rw f at e in cc)
+
+-- What rows that are shown tell.
+pub record Told (s : List ℕ) (o : Outcome Parts) (rows : List ℕ) : Type 0 where
+  pub supplement : Accepted s
+  pub parts : Parts
+  pub read : o ≡ frame.accepted parts
+  pub told : rows ≡ reportBytes (under s parts)
+
+-- The supplement, then the reading, then its rows.
+module _ (s : List ℕ) (o : Outcome Parts) (room : ℕ) where
+  pub supplement-refused : (check s .refusal ≡ NoRefusal → ⊥) → reportAnswer s o room ≡ refused (check s .refusal) (check s .place)
+  unfolding reportAnswer
+  supplement-refused e = rw (ne-eqb (check s .refusal) NoRefusal e)
+
+  accepted-supplement : Accepted s → reportAnswer s o room ≡ answerOf s o room
+  unfolding reportAnswer
+  accepted-supplement a = rw (eq-eqb (check s .refusal) NoRefusal a)
+
+  pub reading-refused : Accepted s → (n : ℕ) → o ≡ frame.refused n → reportAnswer s o room ≡ refused n 0
+  unfolding answerOf
+  reading-refused a n e = accepted-supplement a ∙ ap (λ (p : Outcome Parts). answerOf s p room) e
+
+  pub reading-accepted : Accepted s → (p : Parts) → o ≡ frame.accepted p → reportAnswer s o room ≡ fitted room (reportBytes (under s p))
+  unfolding answerOf
+  reading-accepted a p e = accepted-supplement a ∙ ap (λ (q : Outcome Parts). answerOf s q room) e
+
+  -- Rows that are shown: the supplement and the frame are accepted, and the rows are those of the frame's parts.
+  pub shown-is : (rows : List ℕ) → reportAnswer s o room ≡ shown rows → Told s o rows
+  unfolding answerOf
+  shown-is rows e =
+      cases (eqb (check s .refusal) NoRefusal)
+      (λ t. let a : Accepted s = eqb-true (check s .refusal) NoRefusal t in read-told o refl (sym (accepted-supplement a) ∙ e) a)
+      (λ f. absurd (refused-shown (sym (supplement-refused (eqb-false (check s .refusal) NoRefusal f)) ∙ e)))
+    where
+      read-told : (p : Outcome Parts) → o ≡ p → answerOf s p room ≡ shown rows → Accepted s → Told s o rows
+      read-told (frame.refused n) r g a = absurd (refused-shown g)
+      read-told (frame.accepted p) r g a = record { supplement = a; parts = p; read = r; told = fitted-is room _ rows g }

@@ -1,0 +1,2 @@
+-- Laws of the bits of an item.
+pub mod Laws

@@ -1,0 +1,2 @@
+-- Laws of a group.
+pub mod Laws

@@ -1,0 +1,20 @@
+-- By whether a layout was found.
+use borrow.Author.Needs.{needs}
+use mathlib.Core.Path.{sym}
+use Rattle.report.proofs.group.group_remainder.Statement.{statement}
+use Rattle.report.proofs.group.group_remainder.Tie as tie
+use Rattle.report.proofs.group.group_remainder.Reads as reads
+use Rattle.report.proofs.group.group_remainder.Lts as lts
+use Rattle.report.proofs.group.remainder_line.Reads as remainder-line-reads
+
+remainder-line-requires : tie.Need-remainder-line-requires
+remainder-line-requires c κs = search needs
+
+returns : tie.Need-returns
+returns c = rw (c .before .if1 .taken) (c .remainder-line .ensures)
+
+returns-2 : tie.Need-returns-2
+returns-2 c = sym (rw (c .if1 .left))
+
+pub group-remainder-spec : {M : Type 1} → statement M
+group-remainder-spec = tie.close (tie.spec remainder-line-requires returns returns-2)

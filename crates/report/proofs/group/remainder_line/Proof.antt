@@ -1,0 +1,47 @@
+-- Each arm is the place's remainder.
+use borrow.Author.Needs.{needs}
+use mathlib.Core.Path.{sym, ap, subst}
+use Prim.Native.Nat.{_≤_}
+use Rattle.report.specs.Report.{remainderAt}
+use Rattle.report.specs.Contracts.{Inside}
+use Rattle.report.proofs.group.remainder_line.Statement.{statement}
+use Rattle.report.proofs.group.remainder_line.Tie as tie
+use Rattle.report.proofs.group.remainder_line.Reads as reads
+use Rattle.report.proofs.group.remainder_line.Lts as lts
+
+enum-known-place : tie.Need-enum-known-place
+enum-known-place c = search needs
+
+inside : (c : tie.After-known-told) → c .before .place .given .0 .0 ≤ c .before .before .before .args .to
+inside c =
+    let start = c .before .before .before in
+    subst (Inside (start .args .to)) (c .before .place .given .1) (start .pre .1)
+
+sub-t5 : tie.Need-sub-t5
+sub-t5 c = inside c
+
+cast-t6 : tie.Need-cast-t6
+cast-t6 c = search needs
+
+enum-told : tie.Need-enum-told
+enum-told c = search needs
+
+enum-told-2 : tie.Need-enum-told-2
+enum-told-2 c = search needs
+
+returns : tie.Need-returns
+unfolding remainderAt
+returns c = ap (remainderAt (c .before .before .before .args .to)) (sym (c .before .place .given .1))
+
+returns-2 : tie.Need-returns-2
+unfolding remainderAt
+returns-2 c = ap (remainderAt (c .before .before .args .to)) (sym (c .enum-told .given .1))
+
+returns-3 : tie.Need-returns-3
+unfolding remainderAt
+returns-3 c = ap (remainderAt (c .before .before .args .to)) (sym (c .enum-told2 .given .1))
+
+pub remainder-line-spec : {M : Type 1} → statement M
+remainder-line-spec =
+    tie.close
+    (tie.spec enum-known-place sub-t5 cast-t6 enum-told enum-told-2 returns returns-2 returns-3)

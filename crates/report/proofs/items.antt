@@ -1,0 +1,2 @@
+-- Laws of an item's line.
+pub mod Laws

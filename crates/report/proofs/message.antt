@@ -1,0 +1,2 @@
+-- Laws of a message.
+pub mod Laws

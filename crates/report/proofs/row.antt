@@ -1,0 +1,2 @@
+-- Laws of a row.
+pub mod Laws

@@ -1,0 +1,119 @@
+-- Laws of a row: bytes written from the last to the first, and how long a row is.
+use mathlib.Core.Path.{_≡_, refl, sym, ap, _∙_, subst}
+use mathlib.Core.List.{List, [], _∷_}
+use Prim.Native.Nat.{ℕ, zero, suc, _+_, _-_, _/_, _%_, _^_, _≤_, _<_}
+use native.Mathlib.Omega.{arith}
+use native.Mathlib.Nat.{pow-suc, div-one, div-div-eq-div-mul}
+use lib.ListN.{length, set}
+use lib.Ieee.{binary64, toBits}
+use Rattle.frame.specs.Bytes.{placed}
+use Rattle.frame.proofs.bytes.Placed.{stored, stored-before, placed-none, length-placed, joined}
+use Rattle.report.specs.declared.line.Line.{Line}
+use Rattle.report.specs.declared.line.Line.the-variants.{Number, State, Bits, Text, Digits, Invalid, Short, Unknown, Left, Answered}
+use Rattle.report.specs.Rows.{bigEndian, row}
+use Rattle.report.specs.Contracts.{holdsNumber}
+
+pub length-big-endian : (n x : ℕ) → length (bigEndian n x) ≡ n
+unfolding bigEndian
+length-big-endian zero x = refl
+length-big-endian (suc n) x = ap suc (length-big-endian n x)
+
+-- A number whose last bytes are written: how many are left, and what is left of the number.
+pub record Counted (x n at : ℕ) (out₀ : List ℕ) (out : List ℕ) (left rest : ℕ) : Type 0 where
+  pub bounded : left ≤ n
+  pub bytes : out ≡ placed out₀ (at + left) (bigEndian (n - left) x)
+  pub after : rest ≡ x / 256 ^ (n - left)
+
+module _ (x n at : ℕ) (out₀ : List ℕ) (fits : at + n ≤ length out₀) where
+  pub none-counted : Counted x n at out₀ out₀ n x
+  unfolding bigEndian
+  none-counted =
+      let none : n - n ≡ 0 = omega arith in
+      record {
+        bounded = omega arith;
+        bytes = placed-none out₀ (at + n) ∙ ap (λ (m : ℕ). placed out₀ (at + n) (bigEndian m x)) (sym none);
+        after = sym (div-one x) ∙ ap (λ (m : ℕ). x / 256 ^ m) (sym none);
+      }
+
+  pub one-less :
+      (out : List ℕ) (left rest : ℕ)
+      → 0 < left
+      → Counted x n at out₀ out left rest
+      → Counted x n at out₀ (set out (at + (left - 1)) (rest % 256)) (left - 1) (rest / 256)
+  unfolding bigEndian
+  one-less out left rest some k =
+      let more : n - (left - 1) ≡ suc (n - left) = omega (arith, k .bounded) in
+      let place : at + left ≡ suc (at + (left - 1)) = omega arith in
+      record {
+        bounded = omega (arith, k .bounded);
+        bytes =
+            (λ i. set ((k .bytes ∙ ap (λ (m : ℕ). placed out₀ m (bigEndian (n - left) x)) place) i) (at + (left - 1)) (k .after i % 256))
+            ∙ stored-before out₀ (at + (left - 1)) (x / 256 ^ (n - left) % 256) (bigEndian (n - left) x)
+            (omega (arith, k .bounded, length-big-endian (n - left) x))
+            ∙ ap (λ (m : ℕ). placed out₀ (at + (left - 1)) (bigEndian m x)) (sym more);
+        after =
+            ap (λ (m : ℕ). m / 256) (k .after)
+            ∙ div-div-eq-div-mul x (256 ^ (n - left)) 256
+            ∙ ap (λ (m : ℕ). x / m) (sym (pow-suc 256 (n - left)))
+            ∙ ap (λ (m : ℕ). x / 256 ^ m) (sym more);
+      }
+
+  pub length-counted : (out : List ℕ) (left rest : ℕ) → Counted x n at out₀ out left rest → length out ≡ length out₀
+  length-counted out left rest k =
+      ap length (k .bytes) ∙ length-placed out₀ (at + left) (bigEndian (n - left) x) (omega (arith, k .bounded, length-big-endian (n - left) x))
+
+  pub all-counted : (out : List ℕ) (left rest : ℕ) → left ≤ 0 → Counted x n at out₀ out left rest → out ≡ placed out₀ at (bigEndian n x)
+  all-counted out left rest none k =
+      let place : at + left ≡ at = omega arith in
+      let size : n - left ≡ n = omega arith in
+      k .bytes ∙ (λ i. placed out₀ (place i) (bigEndian (size i) x))
+
+-- A body placed right behind its kind makes a row.
+pub kind-behind :
+    (out : List ℕ) (at kind : ℕ) (body : List ℕ) {o : List ℕ}
+    → o ≡ placed (set out at kind) (at + 1) body
+    → at < length out
+    → o ≡ placed out at (kind ∷ body)
+kind-behind out at kind body e fits = joined out at (kind ∷ []) body (stored out at kind fits) e refl (omega arith)
+
+pub row-some : (l : Line) → 1 ≤ length (row l)
+unfolding row
+row-some (Number x) = omega arith
+row-some (State n) = omega arith
+row-some (Bits n) = omega arith
+row-some (Text n) = omega arith
+row-some (Digits n) = omega arith
+row-some (Invalid n) = omega arith
+row-some Short = omega arith
+row-some (Unknown n) = omega arith
+row-some (Left n) = omega arith
+row-some (Answered n) = omega arith
+
+pub row-nine : (l : Line) → length (row l) ≤ 9
+unfolding row
+row-nine (Number x) = omega (arith, length-big-endian 8 (toBits binary64 x))
+row-nine (State n) = omega (arith, length-big-endian 4 n)
+row-nine (Bits n) = omega (arith, length-big-endian 4 n)
+row-nine (Text n) = omega (arith, length-big-endian 4 n)
+row-nine (Digits n) = omega (arith, length-big-endian 4 n)
+row-nine (Invalid n) = omega (arith, length-big-endian 4 n)
+row-nine Short = omega arith
+row-nine (Unknown n) = omega arith
+row-nine (Left n) = omega arith
+row-nine (Answered n) = omega arith
+
+-- A line that is known by an equation: what its row asks, and what is placed.
+pub asked :
+    (out : List ℕ) (at : ℕ) {l k : Line}
+    → l ≡ k
+    → holdsNumber l × (at + length (row l) ≤ length out)
+    → holdsNumber k × (at + length (row k) ≤ length out)
+asked out at e h = subst (λ (k : Line). holdsNumber k × (at + length (row k) ≤ length out)) e h
+
+pub put-told :
+    (out : List ℕ) (at : ℕ) {l k : Line} {o : List ℕ} {r : ℕ}
+    → l ≡ k
+    → (o ≡ placed out at (row k)) × (r ≡ at + length (row k))
+    → (o ≡ placed out at (row l)) × (r ≡ at + length (row l))
+put-told out at {o = o} {r = r} e h =
+    subst (λ (l : Line). (o ≡ placed out at (row l)) × (r ≡ at + length (row l))) (sym e) h

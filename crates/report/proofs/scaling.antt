@@ -1,0 +1,2 @@
+-- Laws of scaling.
+pub mod Laws

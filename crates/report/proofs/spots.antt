@@ -1,0 +1,2 @@
+-- Laws of spots.
+pub mod Laws

@@ -1,0 +1,2 @@
+-- Laws of a tally.
+pub mod Laws
