@@ -120,10 +120,10 @@ module _ (r : List ℕ) (bytes : Bytes r) where
   slot-row-sized =
       sized-slot (slotRow r)
       (record {
-        number = two-small 3;
-        multiplier = two-small 5;
-        divisor = two-small 7;
-        offset = four-small 9;
-        lowest = four-small 13;
-        highest = four-small 17;
+        number = two-small _;
+        multiplier = two-small _;
+        divisor = two-small _;
+        offset = four-small _;
+        lowest = four-small _;
+        highest = four-small _;
       })
