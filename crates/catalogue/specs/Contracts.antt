@@ -10,6 +10,7 @@ use lib.Dec.{eqb}
 use lib.ListN.{length, take, drop, getD}
 use Rattle.catalogue.specs.declared.rows.PrnRow.{PrnRow}
 use Rattle.catalogue.specs.declared.rows.SlotRow.{SlotRow}
+use Rattle.catalogue.specs.declared.supplement.Checked.{Checked}
 use Rattle.catalogue.specs.declared.supplement.RecordFound.{RecordFound}
 use Rattle.catalogue.specs.declared.supplement.RecordFound.the-variants.{Missing, At}
 use Rattle.catalogue.specs.Rows.{prn, slot}
@@ -134,10 +135,13 @@ pub record Marks (before after key : List ℕ) (answer : Bool) : Type 0 where
 abbrev pub Covers : List ℕ → List (List ℕ) → Type 0
 Covers f rs = (r : List ℕ) → List·Memᴰ r rs → marked f (bitOf (keyOf r)) ≡ true
 
--- The test of records at a place: what is told of all is told of those from there on, after those before it, which are whole and have
--- their bits in the filter.
+-- The test of the records from a place on, after those before it.
+abbrev pub testFrom : List ℕ → ℕ → Checked
+testFrom s at = checkFrom (recordsOf (take at s)) at (recordsOf (drop at s))
+
+-- The test at a place: what is told of all is told from there on, and the records before it are whole and have their bits in the filter.
 pub record Passed (s f : List ℕ) (at : ℕ) : Type 0 where
-  pub test : check s ≡ checkFrom (recordsOf (take at s)) at (recordsOf (drop at s))
+  pub test : check s ≡ testFrom s at
   pub whole : Whole (take at s)
   pub within : at ≤ length s
   pub covers : Covers f (recordsOf (take at s))

@@ -12,12 +12,11 @@ use lib.Seq.{getD-take, getD-drop}
 use Rattle.frame.proofs.bytes.Laws.{cases}
 use Rattle.frame.proofs.refusal.Laws.{kept, last-kept, none-broken}
 use Rattle.catalogue.specs.Search.{isFound}
-use Rattle.catalogue.specs.declared.supplement.Checked.{Checked}
 use Rattle.catalogue.specs.Refusal.{SupplementTooLong}
 use Rattle.catalogue.specs.Kind.{recordSize, known}
 use Rattle.catalogue.specs.Record.{recordKind, keyOf, recordWith, inRange, inSae, faultRules, fault}
 use Rattle.catalogue.specs.Supplement.{recordsIn, recordsOf, LargestSupplement, checkFrom, check, Whole}
-use Rattle.catalogue.specs.Contracts.{recordFrom}
+use Rattle.catalogue.specs.Contracts.{recordFrom, testFrom}
 use Rattle.catalogue.proofs.kind.Laws.{size-positive}
 use Rattle.catalogue.proofs.supplement.Laws.{records-nil, records-from, records-more}
 
@@ -74,19 +73,15 @@ module _ (s : List ℕ) where
   unfolding check
   check-over h = rw (lt-ltb LargestSupplement (length s) h)
 
-  pub check-start : length s ≤ LargestSupplement → check s ≡ checkFrom (recordsOf (take 0 s)) 0 (recordsOf (drop 0 s))
+  pub check-start : length s ≤ LargestSupplement → check s ≡ testFrom s 0
   unfolding check
   check-start h = rw (le-ltb LargestSupplement (length s) h) (ap (λ (rs : List (List ℕ)). checkFrom rs 0 (recordsOf s)) (sym records-nil))
-
-  -- The test from a place on.
-  abbrev pub testFrom : ℕ → Checked
-  testFrom at = checkFrom (recordsOf (take at s)) at (recordsOf (drop at s))
 
   pub check-fault :
       (at : ℕ)
       → at < length s
       → (fault (recordsOf (take at s)) (recordFrom s at) ≡ 0 → ⊥)
-      → testFrom at ≡ record { refusal = fault (recordsOf (take at s)) (recordFrom s at); place = at }
+      → testFrom s at ≡ record { refusal = fault (recordsOf (take at s)) (recordFrom s at); place = at }
   unfolding checkFrom
   check-fault at h n =
       ap (checkFrom (recordsOf (take at s)) at) (records-from s at h) ∙ rw (ne-eqb (fault (recordsOf (take at s)) (recordFrom s at)) 0 n)
@@ -96,7 +91,7 @@ module _ (s : List ℕ) where
       → at < length s
       → Whole (take at s)
       → fault (recordsOf (take at s)) (recordFrom s at) ≡ 0
-      → testFrom at ≡ testFrom (at + length (recordFrom s at))
+      → testFrom s at ≡ testFrom s (at + length (recordFrom s at))
   unfolding checkFrom
   check-next at h w e =
       let end : ℕ = at + length (recordFrom s at) in
@@ -105,7 +100,7 @@ module _ (s : List ℕ) where
       ∙ rw (eq-eqb (fault (recordsOf (take at s)) (recordFrom s at)) 0 e)
       (ap (λ (rs : List (List ℕ)). checkFrom rs end (recordsOf (drop end s))) (sym (records-more s at h w whole)))
 
-  pub check-end : (at : ℕ) → length s ≤ at → testFrom at ≡ record { refusal = 0; place = 0 }
+  pub check-end : (at : ℕ) → length s ≤ at → testFrom s at ≡ record { refusal = 0; place = 0 }
   unfolding checkFrom
   check-end at h =
       ap (checkFrom (recordsOf (take at s)) at) (ap recordsOf (drop-of-length-le s {i = at} h) ∙ records-nil)

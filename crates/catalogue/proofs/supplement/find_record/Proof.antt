@@ -43,8 +43,8 @@ module _ (c : tie.After-end-of Inv-loop μ-loop) where
       let turn = c .before .before .before in
       onward (turn .before .before .before .before .before .args .s .now) (turn .before .loop .at) (turn .loop-test .taken) (c .end-of .ensures)
 
-returns : tie.Need-returns Inv-loop μ-loop
-returns c =
+found : tie.Need-returns Inv-loop μ-loop
+found c =
     let at-end = c .before .before .before in
     let turn = at-end .before .before .before in
     let seeking = turn .before .loop .inv in (
@@ -62,8 +62,8 @@ loop-again c =
     miss _ _ (turn .before .loop .inv) (turn .loop-test .taken) (at-end .end-of .ensures) (sym (c .before .has-key .ensures) ∙ c .if2 .left) _
     (fresh-size (at-end .before))
 
-returns-2 : tie.Need-returns-2 Inv-loop μ-loop
-returns-2 c = (ended _ _ (c .before .loop .inv) (c .loop-test .left), tt)
+missing : tie.Need-returns-2 Inv-loop μ-loop
+missing c = (ended _ _ (c .before .loop .inv) (c .loop-test .left), tt)
 
 pub find-record-spec : {M : Type 1} → statement M
 find-record-spec =
@@ -80,7 +80,7 @@ find-record-spec =
     (λ c. omega (arith, c .end-of .ensures))
     (λ c. omega (arith, bounds c))
     (λ c κs. tt)
-    returns
+    found
     loop-less
     loop-again
-    returns-2)
+    missing)
