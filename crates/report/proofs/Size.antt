@@ -20,33 +20,33 @@ use Rattle.report.specs.declared.spots.Place.{Place}
 use Rattle.report.specs.declared.spots.Place.the-variants.{Bit, Lost, Past}
 use Rattle.report.specs.declared.line.Line.{Line}
 use Rattle.report.specs.Report.{Part, Message, dataPart, messageOf, remainderAt, groupOf, groupLines, responseLine, reportOf, linesOf, verdict}
-use Rattle.report.specs.Rows.{row, rowsOf, reportBytes}
+use Rattle.report.specs.Rows.{DoubleRow, ByteRow, row, rowsOf, reportBytes}
 use Rattle.report.specs.Answer.{Answer, refused, shown, fitted, under, answerOf, reportAnswer, sized}
 use Rattle.report.proofs.rows.Laws.{rows-append, rows-snoc, rows-length}
 use Rattle.report.proofs.message.Laws.{items-most}
 use Rattle.report.proofs.answer.Laws.{verdict-length}
 
-remainder-row : (to : ℕ) (place : Place) → length (row (remainderAt to place)) ≤ 2
+remainder-row : (to : ℕ) (place : Place) → length (row (remainderAt to place)) ≤ ByteRow
 unfolding remainderAt row
 remainder-row to (Bit at) = omega arith
 remainder-row to Lost = omega arith
 remainder-row to Past = omega arith
 
-response-row : (kind : ℕ) → length (row (responseLine kind)) ≤ 2
+response-row : (kind : ℕ) → length (row (responseLine kind)) ≤ ByteRow
 unfolding responseLine row
 response-row kind = cases (eqb kind KindData) (λ t. rw t (omega arith)) (λ f. rw f (omega arith))
 
-group-remainder : (c : Catalogue) (o : Option LayoutRow) (p : Part) → length (row (groupOf c o p .remainder)) ≤ 2
+group-remainder : (c : Catalogue) (o : Option LayoutRow) (p : Part) → length (row (groupOf c o p .remainder)) ≤ ByteRow
 unfolding groupOf row
 group-remainder c none p = omega arith
 group-remainder c (some l) p = remainder-row (p .to) _
 
 -- The bytes of a group at the most, and of a report of one group: nine for an item, two for its remainder, the response, the verdict.
 abbrev groupBytes : ℕ
-groupBytes = 9 * MostPrns + 2
+groupBytes = DoubleRow * MostPrns + ByteRow
 
 abbrev pub reportBytesMost : ℕ
-reportBytesMost = groupBytes + 2 + 2
+reportBytesMost = groupBytes + ByteRow + ByteRow
 
 -- A group of at most sixteen items, each a row of nine bytes at the most, and a remainder.
 module _ (c : Catalogue) (o : Option LayoutRow) where

@@ -1,5 +1,5 @@
 -- Rows as bytes: document 01, "As bytes, rows of kind and body".
-use Prim.Native.Nat.{ℕ, zero, suc, _/_, _%_, _^_}
+use Prim.Native.Nat.{ℕ, zero, suc, _+_, _/_, _%_, _^_}
 use mathlib.Core.List.{List, [], _∷_, _++_}
 use lib.Ieee.{binary64, toBits}
 use Rattle.report.specs.declared.line.Line.{Line}
@@ -16,6 +16,19 @@ DoubleBytes = 8
 
 abbrev pub CodeBytes : ℕ
 CodeBytes = 4
+
+-- Bytes of a row: a kind, and a double, a code, a byte or nothing.
+abbrev pub DoubleRow : ℕ
+DoubleRow = 1 + DoubleBytes
+
+abbrev pub CodeRow : ℕ
+CodeRow = 1 + CodeBytes
+
+abbrev pub ByteRow : ℕ
+ByteRow = 1 + 1
+
+abbrev pub BareRow : ℕ
+BareRow = 1
 
 -- A number in so many bytes, the most significant first.
 unfoldable pub bigEndian : ℕ → ℕ → List ℕ

@@ -7,7 +7,7 @@ ghost use Prim.Native.Nat.{_+_, _≤_};
 ghost use lib.ListN.{length};
 ghost use lib.Ieee.{binary64, isNan, toBits};
 ghost use Rattle.frame.specs.Bytes.{placed};
-ghost use Rattle.report.specs.Rows.{DoubleBytes, CodeBytes, bigEndian, row};
+ghost use Rattle.report.specs.Rows.{DoubleBytes, CodeBytes, DoubleRow, CodeRow, ByteRow, BareRow, bigEndian, row};
 ghost use Rattle.report.specs.Contracts.{holdsNumber};
 
 // A row is a byte for its kind and a body: a double, a code, a byte, or nothing.
@@ -19,7 +19,7 @@ pub(crate) const DOUBLE_ROW: usize = 1 + DOUBLE_BYTES;
 
 pub(crate) const CODE_ROW: usize = 1 + CODE_BYTES;
 
-pub(crate) const BYTE_ROW: usize = 2;
+pub(crate) const BYTE_ROW: usize = 1 + 1;
 
 pub(crate) const BARE_ROW: usize = 1;
 
@@ -62,7 +62,7 @@ fn put_number(x: u64, n: usize, out: &mut [u8], at: usize)
 
 // A kind and a number in so many bytes.
 fn put_body(kind: u8, x: u64, n: usize, out: &mut [u8], at: usize) -> usize
-    requires { ⌜ (n ≤ 8) × (at + 1 + n ≤ length (now out)) ⌝ }
+    requires { ⌜ (n ≤ DoubleBytes) × (at + 1 + n ≤ length (now out)) ⌝ }
     ensures placed { λ r. ⌜ now (out .exit) ≡ placed (now (out .entry)) at (kind ∷ bigEndian n x) ⌝ }
     ensures behind { λ r. ⌜ r ≡ at + 1 + n ⌝ }
 {
@@ -73,27 +73,27 @@ fn put_body(kind: u8, x: u64, n: usize, out: &mut [u8], at: usize) -> usize
 
 // A kind and a double.
 fn put_double(kind: u8, x: f64, out: &mut [u8], at: usize) -> usize
-    requires { ⌜ (isNan x ≡ false) × (at + 9 ≤ length (now out)) ⌝ }
+    requires { ⌜ (isNan x ≡ false) × (at + DoubleRow ≤ length (now out)) ⌝ }
     ensures placed { λ r. ⌜ now (out .exit) ≡ placed (now (out .entry)) at (kind ∷ bigEndian DoubleBytes (toBits binary64 x)) ⌝ }
-    ensures behind { λ r. ⌜ r ≡ at + 9 ⌝ }
+    ensures behind { λ r. ⌜ r ≡ at + DoubleRow ⌝ }
 {
     put_body(kind, f64::to_bits(x), DOUBLE_BYTES, out, at)
 }
 
 // A kind and a code.
 fn put_code(kind: u8, code: u32, out: &mut [u8], at: usize) -> usize
-    requires { ⌜ at + 5 ≤ length (now out) ⌝ }
+    requires { ⌜ at + CodeRow ≤ length (now out) ⌝ }
     ensures placed { λ r. ⌜ now (out .exit) ≡ placed (now (out .entry)) at (kind ∷ bigEndian CodeBytes code) ⌝ }
-    ensures behind { λ r. ⌜ r ≡ at + 5 ⌝ }
+    ensures behind { λ r. ⌜ r ≡ at + CodeRow ⌝ }
 {
     put_body(kind, code as u64, CODE_BYTES, out, at)
 }
 
 // A kind and a byte.
 pub(crate) fn put_byte(kind: u8, b: u8, out: &mut [u8], at: usize) -> usize
-    requires { ⌜ at + 2 ≤ length (now out) ⌝ }
+    requires { ⌜ at + ByteRow ≤ length (now out) ⌝ }
     ensures placed { λ r. ⌜ now (out .exit) ≡ placed (now (out .entry)) at (kind ∷ b ∷ []) ⌝ }
-    ensures behind { λ r. ⌜ r ≡ at + 2 ⌝ }
+    ensures behind { λ r. ⌜ r ≡ at + ByteRow ⌝ }
 {
     out[at] = kind;
     out[at + 1] = b;
@@ -102,9 +102,9 @@ pub(crate) fn put_byte(kind: u8, b: u8, out: &mut [u8], at: usize) -> usize
 
 // A kind alone.
 fn put_bare(kind: u8, out: &mut [u8], at: usize) -> usize
-    requires { ⌜ at + 1 ≤ length (now out) ⌝ }
+    requires { ⌜ at + BareRow ≤ length (now out) ⌝ }
     ensures placed { λ r. ⌜ now (out .exit) ≡ placed (now (out .entry)) at (kind ∷ []) ⌝ }
-    ensures behind { λ r. ⌜ r ≡ at + 1 ⌝ }
+    ensures behind { λ r. ⌜ r ≡ at + BareRow ⌝ }
 {
     out[at] = kind;
     at + BARE_ROW

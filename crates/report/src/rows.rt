@@ -10,12 +10,12 @@ ghost use Prim.Native.Nat.{_+_, _≤_};
 ghost use lib.ListN.{length};
 ghost use Rattle.frame.specs.Bytes.{placed};
 ghost use Rattle.report.specs.Verdict.{verdictOf};
-ghost use Rattle.report.specs.Rows.{rowsOf, verdictRow};
+ghost use Rattle.report.specs.Rows.{ByteRow, rowsOf, verdictRow};
 ghost use Rattle.report.specs.Contracts.{allHold, linesIn, Shows};
 
 // The rows of a report at the start of lent memory, the verdict's last.
 pub(crate) fn put_report(report: Report, out: &mut [u8])
-    requires { ⌜ Shows report (linesIn report) × allHold (linesIn report) × (length (rowsOf (linesIn report)) + 2 ≤ length (now out)) ⌝ }
+    requires { ⌜ Shows report (linesIn report) × allHold (linesIn report) × (length (rowsOf (linesIn report)) + ByteRow ≤ length (now out)) ⌝ }
     ensures { λ r. ⌜ now (out .exit) ≡ placed (now (out .entry)) 0 (rowsOf (linesIn report) ++ verdictRow (verdictOf (linesIn report))) ⌝ }
 {
     let mut end: usize = 0;

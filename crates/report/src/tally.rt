@@ -8,6 +8,7 @@ ghost use mathlib.Core.Path.{_≡_};
 ghost use mathlib.Core.Bool.{false, _||_};
 ghost use mathlib.Core.List.{[]};
 ghost use Prim.Native.Nat.{_*_, _≤_};
+ghost use Rattle.report.specs.Rows.{DoubleRow};
 ghost use Rattle.report.specs.Contracts.{MostLines, weight, together, tallyOf};
 
 // Whether a line flags, whether one is Unknown, and how long the rows of all are.
@@ -80,7 +81,7 @@ fn either(a: bool, b: bool) -> bool
 
 // The tally with one line more.
 pub(crate) fn tallied(tally: Tally, line: Line) -> Tally
-    requires { ⌜ tally .size ≤ 9 * MostLines ⌝ }
+    requires { ⌜ tally .size ≤ DoubleRow * MostLines ⌝ }
     ensures { λ r. ⌜ r ≡ together tally (weight line) ⌝ }
 {
     let w = weight_of(line);

@@ -6,6 +6,7 @@ use native.Mathlib.Omega.{arith}
 use borrow.Author.Needs.{needs}
 use lib.ListN.{length}
 use Rattle.frame.specs.Reader.{readFrame}
+use Rattle.catalogue.specs.Supplement.{LargestSupplement}
 use Rattle.report.specs.Answer.{Answer, refused, shown, reportAnswer, sized, reportedOf}
 use Rattle.report.proofs.Size.{place-within, size-within}
 use Rattle.c_api.specs.Words.{reportWord}
@@ -33,7 +34,7 @@ module _ (c : tie.After-known-told) where
   told-refused : (let g = c .before .reported .given .0 in refused (g .0) (g .1 .0)) ≡ sized (answerAt start)
   told-refused = ap reportedOf (sym (c .before .reported .given .1)) ∙ c .before .before .before .before .before .report .ensures .0
 
-  place-fits : c .before .reported .given .0 .1 .0 ≤ 16384
+  place-fits : c .before .reported .given .0 .1 .0 ≤ LargestSupplement
   place-fits =
       let a = start .args in
       place-within (a .supplement .now) (readFrame (a .first .now) (a .response .now)) (length (a .out .now)) _ _ told-refused

@@ -2,6 +2,7 @@
 use mathlib.Core.Path.{ap}
 use Prim.Native.Nat.{_≤_}
 use native.Mathlib.Omega.{arith}
+use Rattle.catalogue.specs.Supplement.{LargestSupplement}
 use Rattle.catalogue.proofs.supplement.Check.{place-small}
 use Rattle.c_api.specs.Words.{checkWord}
 use borrow.Author.Needs.{needs}
@@ -14,7 +15,7 @@ check-supplement-requires c κs = search needs
 cast-result : tie.Need-cast-result
 cast-result c = search needs
 
-small : (c : tie.After-struct-known) → c .before .check-supplement .result .place ≤ 16384
+small : (c : tie.After-struct-known) → c .before .check-supplement .result .place ≤ LargestSupplement
 small c = rw (c .before .check-supplement .ensures) (place-small (c .before .before .before .args .supplement .now))
 
 mul-result : tie.Need-mul-result

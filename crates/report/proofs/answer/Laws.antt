@@ -16,7 +16,7 @@ use Rattle.report.specs.declared.line.Line.{Line}
 use Rattle.report.specs.declared.tally.Tally.{Tally}
 use Rattle.report.specs.Verdict.{verdictOf}
 use Rattle.report.specs.Report.{Report, linesOf, verdict}
-use Rattle.report.specs.Rows.{rowsOf, verdictRow, reportBytes}
+use Rattle.report.specs.Rows.{ByteRow, rowsOf, verdictRow, reportBytes}
 use Rattle.report.specs.Answer.{Answer, refused, shown, fitted, under, answerOf, reportAnswer, outAfter, sized}
 use Rattle.report.specs.Contracts.{tallyOf}
 
@@ -25,13 +25,13 @@ pub rows-told : (ls : List Line) (q : Report) → ls ≡ linesOf q → rowsOf ls
 unfolding reportBytes verdict
 rows-told ls q e = λ i. rowsOf (e i) ++ verdictRow (verdictOf (e i))
 
-pub verdict-length : (rows : List ℕ) (v : ℕ) → length (rows ++ verdictRow v) ≡ length rows + 2
+pub verdict-length : (rows : List ℕ) (v : ℕ) → length (rows ++ verdictRow v) ≡ length rows + ByteRow
 verdict-length rows v = length-append rows (verdictRow v)
 
 -- How long they are, from the tally of the lines.
-pub size-told : (q : Report) {t : Tally} → t ≡ tallyOf (linesOf q) → t .size + 2 ≡ length (reportBytes q)
+pub size-told : (q : Report) {t : Tally} → t ≡ tallyOf (linesOf q) → t .size + ByteRow ≡ length (reportBytes q)
 unfolding reportBytes tallyOf
-size-told q e = ap (λ (t : Tally). t .size + 2) e ∙ sym (verdict-length (rowsOf (linesOf q)) (verdict q))
+size-told q e = ap (λ (t : Tally). t .size + ByteRow) e ∙ sym (verdict-length (rowsOf (linesOf q)) (verdict q))
 
 -- An answer settles what is handed over and what is left in lent memory.
 pub settled : (a b : Answer (List ℕ)) (out : List ℕ) → a ≡ b → (sized a ≡ sized b) × (outAfter a out ≡ outAfter b out)

@@ -10,7 +10,7 @@ use Rattle.frame.specs.Bytes.{placed}
 use Rattle.frame.proofs.bytes.Placed.{stored, stored-before, placed-none, length-placed, joined}
 use Rattle.report.specs.declared.line.Line.{Line}
 use Rattle.report.specs.declared.line.Line.the-variants.{Number, State, Bits, Text, Digits, Invalid, Short, Unknown, Left, Answered}
-use Rattle.report.specs.Rows.{bigEndian, row}
+use Rattle.report.specs.Rows.{DoubleBytes, CodeBytes, DoubleRow, bigEndian, row}
 use Rattle.report.specs.Contracts.{holdsNumber}
 
 pub length-big-endian : (n x : ℕ) → length (bigEndian n x) ≡ n
@@ -89,18 +89,18 @@ row-some (Unknown n) = omega arith
 row-some (Left n) = omega arith
 row-some (Answered n) = omega arith
 
-pub row-nine : (l : Line) → length (row l) ≤ 9
+pub row-most : (l : Line) → length (row l) ≤ DoubleRow
 unfolding row
-row-nine (Number x) = omega (arith, length-big-endian 8 (toBits binary64 x))
-row-nine (State n) = omega (arith, length-big-endian 4 n)
-row-nine (Bits n) = omega (arith, length-big-endian 4 n)
-row-nine (Text n) = omega (arith, length-big-endian 4 n)
-row-nine (Digits n) = omega (arith, length-big-endian 4 n)
-row-nine (Invalid n) = omega (arith, length-big-endian 4 n)
-row-nine Short = omega arith
-row-nine (Unknown n) = omega arith
-row-nine (Left n) = omega arith
-row-nine (Answered n) = omega arith
+row-most (Number x) = omega (arith, length-big-endian DoubleBytes (toBits binary64 x))
+row-most (State n) = omega (arith, length-big-endian CodeBytes n)
+row-most (Bits n) = omega (arith, length-big-endian CodeBytes n)
+row-most (Text n) = omega (arith, length-big-endian CodeBytes n)
+row-most (Digits n) = omega (arith, length-big-endian CodeBytes n)
+row-most (Invalid n) = omega (arith, length-big-endian CodeBytes n)
+row-most Short = omega arith
+row-most (Unknown n) = omega arith
+row-most (Left n) = omega arith
+row-most (Answered n) = omega arith
 
 -- A line that is known by an equation: what its row asks, and what is placed.
 pub asked :

@@ -12,9 +12,9 @@ use Rattle.frame.proofs.bytes.Placed.{placed-none, length-placed, joined}
 use Rattle.report.specs.declared.line.Line.{Line}
 use Rattle.report.specs.declared.line.Held.{Held}
 use Rattle.report.specs.declared.line.Line.the-variants.{Number}
-use Rattle.report.specs.Rows.{row, rowsOf}
+use Rattle.report.specs.Rows.{DoubleRow, row, rowsOf}
 use Rattle.report.specs.Contracts.{holdsNumber, allHold, firstLines}
-use Rattle.report.proofs.row.Laws.{row-nine}
+use Rattle.report.proofs.row.Laws.{row-most}
 
 pub rows-append : (a b : List Line) → rowsOf (a ++ b) ≡ rowsOf a ++ rowsOf b
 unfolding rowsOf
@@ -27,10 +27,10 @@ rows-snoc ls l =
     ap length (rows-append ls (l ∷ []) ∙ ap (λ (s : List ℕ). rowsOf ls ++ s) (append-nil (row l)))
     ∙ length-append (rowsOf ls) (row l)
 
-pub rows-length : (ls : List Line) → length (rowsOf ls) ≤ 9 * length ls
+pub rows-length : (ls : List Line) → length (rowsOf ls) ≤ DoubleRow * length ls
 unfolding rowsOf
 rows-length [] = omega arith
-rows-length (l ∷ ls) = omega (arith, length-append (row l) (rowsOf ls), row-nine l, rows-length ls)
+rows-length (l ∷ ls) = omega (arith, length-append (row l) (rowsOf ls), row-most l, rows-length ls)
 
 -- Fewer rows are no longer.
 rows-front : (ls : List Line) (i n : ℕ) → i ≤ n → length (rowsOf (take i ls)) ≤ length (rowsOf (take n ls))

@@ -10,7 +10,7 @@ use Rattle.frame.specs.Refusal.{OutputShort}
 use Rattle.catalogue.specs.Lookup.{catalogue}
 use Rattle.report.specs.Verdict.{verdictOf}
 use Rattle.report.specs.Report.{Report, messageFrom, reportOf, linesOf}
-use Rattle.report.specs.Rows.{rowsOf, verdictRow, reportBytes}
+use Rattle.report.specs.Rows.{ByteRow, rowsOf, verdictRow, reportBytes}
 use Rattle.report.specs.Answer.{refused, shown}
 use Rattle.report.specs.Contracts.{allHold, linesIn}
 use Rattle.report.proofs.NoNan.{no-nan}
@@ -35,7 +35,7 @@ asked c = reportBytes (report c)
 told : (c : tie.After-message-report) → let ls = linesIn (c .message-report .result) in rowsOf ls ++ verdictRow (verdictOf ls) ≡ asked c
 told c = rows-told (linesIn (c .message-report .result)) (report c) (c .message-report .ensures .lines)
 
-size : (c : tie.After-message-report) → c .message-report .result .tally .size + 2 ≡ length (asked c)
+size : (c : tie.After-message-report) → c .message-report .result .tally .size + ByteRow ≡ length (asked c)
 size c = size-told (report c) (c .message-report .ensures .tally)
 
 add-size : tie.Need-add-size
@@ -64,7 +64,7 @@ put-report-requires c κs =
     let at = c .before .before .before .before in
     let r = at .message-report .result in
     let ls = linesIn r in
-    let long : length (rowsOf ls) + 2 ≡ length (asked at) = sym (verdict-length (rowsOf ls) (verdictOf ls)) ∙ ap length (told at) in
+    let long : length (rowsOf ls) + ByteRow ≡ length (asked at) = sym (verdict-length (rowsOf ls) (verdictOf ls)) ∙ ap length (told at) in
     (shows-own r _ (at .message-report .ensures), holds at, omega (arith, long, size at, c .before .if1 .left))
 
 same-length : tie.Need-same-length

@@ -8,7 +8,7 @@ use native.Mathlib.Omega.{arith}
 use Rattle.report.specs.declared.tally.Tally.{Tally}
 use Rattle.report.specs.Rows.{row}
 use Rattle.report.specs.Contracts.{weight}
-use Rattle.report.proofs.row.Laws.{row-nine}
+use Rattle.report.proofs.row.Laws.{row-most}
 use Rattle.report.proofs.tally.tallied.Statement.{statement}
 use Rattle.report.proofs.tally.tallied.Tie as tie
 use Rattle.report.proofs.tally.tallied.Reads as reads
@@ -30,7 +30,7 @@ add-t6 c =
     let start = c .before .before .before .before .before in
     let weighed : c .before .before .before .before .weight-of .result .size ≡ length (row (start .args .line)) =
     ap (λ (t : Tally). t .size) (c .before .before .before .before .weight-of .ensures) in
-    omega (arith, weighed, row-nine (start .args .line), start .pre)
+    omega (arith, weighed, row-most (start .args .line), start .pre)
 
 returns : tie.Need-returns
 returns c =
