@@ -6,6 +6,7 @@ use mathlib.Core.List.{List, [], _∷_, _++_, List·Memᴰ}
 use lib.Dec.{eqb, ltb}
 use lib.ListN.{length, take, drop}
 use Rattle.catalogue.specs.declared.supplement.Checked.{Checked}
+use Rattle.frame.specs.Refusal.{NoRefusal}
 use Rattle.catalogue.specs.Refusal.{SupplementTooLong}
 use Rattle.catalogue.specs.Kind.{recordSize, known}
 use Rattle.catalogue.specs.Record.{recordKind, keyOf, inRange, inSae, fault}
@@ -22,9 +23,9 @@ recordsOf s = recordsIn (length s) s
 
 -- The first record with a fault gives its number and its place.
 unfoldable pub checkFrom : List (List ℕ) → ℕ → List (List ℕ) → Checked
-checkFrom seen at [] = record { refusal = 0; place = 0 }
+checkFrom seen at [] = record { refusal = NoRefusal; place = 0 }
 checkFrom seen at (r ∷ rs) =
-    cond (eqb (fault seen r) 0) (checkFrom (seen ++ r ∷ []) (at + length r) rs) (record { refusal = fault seen r; place = at })
+    cond (eqb (fault seen r) NoRefusal) (checkFrom (seen ++ r ∷ []) (at + length r) rs) (record { refusal = fault seen r; place = at })
 
 -- "supplement over 16,384 bytes"
 abbrev pub LargestSupplement : ℕ
@@ -35,7 +36,7 @@ check s = cond (ltb LargestSupplement (length s)) (record { refusal = Supplement
 
 -- "A frame is accepted if none of the reader's refusals applies to it, a supplement if none of 10 to 15 does."
 abbrev pub Accepted : List ℕ → Type 0
-Accepted s = check s .refusal ≡ 0
+Accepted s = check s .refusal ≡ NoRefusal
 
 -- What makes a list of records good, said without an order: each record by itself,
 pub record Sound (r : List ℕ) : Type 0 where

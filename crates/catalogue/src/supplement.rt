@@ -12,11 +12,13 @@ use crate::refusal::OUTSIDE_RANGE;
 use crate::refusal::SUPPLEMENT_TOO_LONG;
 use crate::refusal::UNKNOWN_KIND;
 use frame::bytes::byte_at;
+use frame::refusal::NO_REFUSAL;
 ghost use mathlib.Core.Path.{_≡_};
 ghost use mathlib.Core.Bool.{true};
 ghost use mathlib.Core.List.{[], _∷_, _++_};
 ghost use Prim.Native.Nat.{_+_, _≤_, _<_};
 ghost use lib.ListN.{length, getD};
+ghost use Rattle.frame.specs.Refusal.{NoRefusal};
 ghost use Rattle.catalogue.specs.Search.{isFound};
 ghost use Rattle.catalogue.specs.Kind.{recordSize, keySize, known};
 ghost use Rattle.catalogue.specs.Record.{recordKind, keyOf, recordWith, fault};
@@ -136,7 +138,7 @@ fn repeats(seen: &[u8], bytes: &[u8], filter: &mut [u64]) -> bool
 fn fault_of(seen: &[u8], bytes: &[u8], filter: &mut [u64]) -> u8
     requires { ⌜ Covers (now filter) (recordsOf (now seen)) ⌝ }
     ensures told { λ r. ⌜ r ≡ fault (recordsOf (now (seen .entry))) (now (bytes .entry)) ⌝ }
-    ensures covered { λ r. ⌜ (r ≡ 0 → Covers (now (filter .exit)) (recordsOf (now (seen .entry)) ++ now (bytes .entry) ∷ [])) ⌝ }
+    ensures covered { λ r. ⌜ (r ≡ NoRefusal → Covers (now (filter .exit)) (recordsOf (now (seen .entry)) ++ now (bytes .entry) ∷ [])) ⌝ }
 {
     let size = record_size(byte_at(bytes, 0));
     if size <= 1 {
@@ -154,7 +156,7 @@ fn fault_of(seen: &[u8], bytes: &[u8], filter: &mut [u64]) -> u8
     if in_sae(bytes) {
         return KEY_IN_SAE;
     }
-    0
+    NO_REFUSAL
 }
 
 // The test of records with any filter, whatever its length and its bits.
@@ -166,13 +168,13 @@ fn check_records(s: &[u8], filter: &mut [u64]) -> Checked
     while at < s.len() {
         let end = record_end(s, at);
         let refusal = fault_of(&s[..at], &s[at..end], filter);
-        if refusal != 0 {
+        if refusal != NO_REFUSAL {
             return Checked { refusal, place: at };
         }
         at = end;
     }
     Checked {
-        refusal: 0,
+        refusal: NO_REFUSAL,
         place: 0,
     }
 }
