@@ -2,7 +2,7 @@
 use mathlib.Core.Path.{_≡_, refl, sym, ap, _∙_, subst}
 use mathlib.Core.Logic.{_↔_, _⊎_, inl, inr, ⊎-elim}
 use mathlib.Core.Bool.{true, false, true≢false}
-use mathlib.Core.List.{List, [], _∷_, _++_}
+use mathlib.Core.List.{List, [], _∷_, _++_, map}
 use mathlib.Core.Option.{Option, none, some}
 use Prim.Native.Nat.{ℕ, zero, suc}
 use native.Mathlib.Omega.{arith}
@@ -15,7 +15,7 @@ use Rattle.catalogue.proofs.lookup.Laws.{layout-key-full}
 use Rattle.catalogue.proofs.Within.{supplement-within}
 use Rattle.report.specs.declared.line.Line.{Line}
 use Rattle.report.specs.Line.{isUnknown}
-use Rattle.report.specs.Report.{Message, Group, Report, groupLines, reportOf, linesOf, verdict}
+use Rattle.report.specs.Report.{Part, Message, Group, Report, groupOf, groupLines, reportOf, linesOf, verdict}
 use Rattle.report.specs.Rows.{row}
 use Rattle.report.specs.Answer.{under}
 use Rattle.report.specs.Demand.{Name, item, remainder, response, itemIn, remainderIn, layoutIn, lineAt, Lacks, Keeps}
@@ -133,6 +133,24 @@ module _ (old new : Report) (kept : AllWith GroupKept (old .groups) (new .groups
         not-clear = λ n e. n (verdict-clear _ _ covered e);
         rows = λ n l k e u f. ap row (some-is (sym (shown n l e u) ∙ f));
       }
+
+-- What `Lacks` says of an item line that the second report has: the first catalogue lacks the layout.
+lacks-at :
+    (c d : Catalogue) (o q : Option LayoutRow) (ps : List Part) (g i : ℕ) (l : Line)
+    → itemIn (getElem? (map (groupOf d q) ps) g) i ≡ some l
+    → (layoutIn (getElem? (map (groupOf c o) ps) g) ≡ none) ↔ (o ≡ none)
+unfolding itemIn layoutIn groupOf
+lacks-at c d o q [] g i l e = absurd (none-some e)
+lacks-at c d none q (p ∷ ps) zero i l e = (λ h. refl, λ h. refl)
+lacks-at c d (some k) q (p ∷ ps) zero i l e = (λ h. absurd (none-some (sym h)), λ h. absurd (none-some (sym h)))
+lacks-at c d o q (p ∷ ps) (suc g) i l e = lacks-at c d o q ps g i l e
+
+pub lacks-exactly :
+    (c d : Catalogue) (m : Message) (g i : ℕ) (l : Line)
+    → lineAt (reportOf d m) (item g i) ≡ some l
+    → Lacks (reportOf c m) (item g i) ↔ (c .layout (m .key) ≡ none)
+unfolding lineAt Lacks reportOf
+lacks-exactly c d m g i l e = lacks-at c d (c .layout (m .key)) (d .layout (m .key)) (m .parts) g i l e
 
 -- Demand 3 for one message and two catalogues, whatever the first finds the second finding the same.
 pub keeps : (c d : Catalogue) → Within c d → (m : Message) → FullKey (m .key) → Keeps (reportOf c m) (reportOf d m)

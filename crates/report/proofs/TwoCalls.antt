@@ -8,13 +8,14 @@ use lib.Seq.{getD-append-add}
 use Rattle.frame.specs.Frame.{Parts}
 use Rattle.frame.specs.Refusal.{Outcome, accepted}
 use Rattle.catalogue.specs.Supplement.{Among}
-use Rattle.report.specs.Report.{Report, linesOf, verdict}
+use Rattle.catalogue.specs.Lookup.{catalogue}
+use Rattle.report.specs.Report.{Report, messageOf, linesOf, verdict}
 use Rattle.report.specs.Rows.{rowsOf, verdictRow, reportBytes}
 use Rattle.report.specs.Answer.{shown, under, reportAnswer}
 use Rattle.report.specs.Demand.{Keeps}
 use Rattle.report.specs.TwoCalls.{verdictIn, Compared}
 use Rattle.report.proofs.answer.Laws.{shown-is, verdict-length}
-use Rattle.report.proofs.DemandThree.{demand-three}
+use Rattle.report.proofs.DemandThree.{lacks-exactly, demand-three}
 
 verdict-last : (r : Report) → verdictIn (reportBytes r) ≡ verdict r
 unfolding reportBytes
@@ -39,6 +40,7 @@ compared o s t p old new r k e f =
       first-rows = e;
       second-rows = f;
       lines = k;
+      lacks = lacks-exactly (catalogue s) (catalogue t) (messageOf p);
       clear = λ h. w ∙ k .clear (sym v ∙ h);
       flagged = λ h. w ∙ k .flagged (sym v ∙ h);
       not-clear = λ n h. k .not-clear (λ g. n (w ∙ g)) (sym v ∙ h);
