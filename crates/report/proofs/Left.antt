@@ -1,7 +1,7 @@
 -- The law of Left, for every group of every report.
 use mathlib.Core.Path.{_≡_, refl, sym, ap, _∙_, subst}
 use mathlib.Core.Logic.{_⊎_, inl, inr, ⊎-elim}
-use mathlib.Core.Bool.{Bool, cond, _||_}
+use mathlib.Core.Bool.{cond, _||_}
 use mathlib.Core.List.{List, [], _∷_, map, List·Memᴰ, List·Memᴰ·head, List·Memᴰ·tail, List·Memᴰ·cases-cons, List·Memᴰ·not-nil}
 use mathlib.Core.Option.{Option, none, some, Option·none-ne-some}
 use Prim.Native.Nat.{ℕ, _+_, _-_, _≤_}
@@ -23,7 +23,7 @@ use Rattle.report.specs.Line.{NoPrn, PlaceLost}
 use Rattle.report.specs.Scaling.{numberLine}
 use Rattle.report.specs.Spots.{spotAt, spotOf, behind, spots, placeAfter}
 use Rattle.report.specs.Items.{slotLine, itemLine}
-use Rattle.report.specs.Report.{Part, Message, Group, remainderAt, spotsIn, groupOf, reportOf}
+use Rattle.report.specs.Report.{Part, Message, Group, remainderAt, groupOf, reportOf}
 use Rattle.report.specs.Left.{widthOf, itemWidths, ShowsShort, ShowsLost, Accounted}
 use Rattle.report.proofs.scaling.Laws.{form-among}
 

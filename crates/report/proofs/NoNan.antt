@@ -13,7 +13,7 @@ use Rattle.catalogue.proofs.supplement.Laws.{record-bytes}
 use Rattle.report.specs.declared.line.Line.{Line}
 use Rattle.report.specs.declared.spots.Place.{Place}
 use Rattle.report.specs.declared.spots.Place.the-variants.{Bit, Lost, Past}
-use Rattle.report.specs.Report.{Part, Message, Group, remainderAt, spotsIn, groupOf, groupLines, responseLine, reportOf, linesOf}
+use Rattle.report.specs.Report.{Part, Message, remainderAt, spotsIn, groupOf, groupLines, responseLine, reportOf, linesOf}
 use Rattle.report.specs.Contracts.{holdsNumber, allHold}
 use Rattle.report.proofs.items.Laws.{Divides, good-divides, all-append, all-items}
 

@@ -19,7 +19,7 @@ use Rattle.catalogue.proofs.lookup.Laws.{layout-sixteen}
 use Rattle.report.specs.declared.spots.Place.{Place}
 use Rattle.report.specs.declared.spots.Place.the-variants.{Bit, Lost, Past}
 use Rattle.report.specs.declared.line.Line.{Line}
-use Rattle.report.specs.Report.{Part, Message, dataPart, messageOf, remainderAt, groupOf, groupLines, responseLine, reportOf, linesOf, verdict}
+use Rattle.report.specs.Report.{Part, Message, messageOf, remainderAt, groupOf, groupLines, responseLine, reportOf, linesOf, verdict}
 use Rattle.report.specs.Rows.{DoubleRow, ByteRow, row, rowsOf, reportBytes}
 use Rattle.report.specs.Answer.{Answer, refused, shown, fitted, under, answerOf, reportAnswer, sized}
 use Rattle.report.proofs.rows.Laws.{rows-append, rows-snoc, rows-length}

@@ -1,9 +1,9 @@
 -- What only inner functions cite: places within a window, lines in an array, numbers that are no NaN, what lines add up to. No public
 -- contract reaches here.
-use Prim.Native.Nat.{ℕ, _+_, _≤_, _<_}
+use Prim.Native.Nat.{ℕ, _+_, _≤_}
 use mathlib.Core.Path.{_≡_}
 use mathlib.Core.Bool.{false, _||_}
-use mathlib.Core.List.{List, [], _∷_, _++_, map}
+use mathlib.Core.List.{List, [], _∷_, map}
 use lib.ListN.{length, take}
 use lib.Ieee.{isNan}
 use Rattle.catalogue.specs.Record.{MostPrns}

@@ -10,7 +10,7 @@ use Rattle.catalogue.specs.Lookup.{Catalogue}
 use Rattle.report.specs.declared.line.Line.{Line}
 use Rattle.report.specs.declared.line.Line.the-variants.{Short, Unknown, Left}
 use Rattle.report.specs.Line.{NoPrn, PlaceLost}
-use Rattle.report.specs.Report.{Part, Group}
+use Rattle.report.specs.Report.{Group}
 
 -- The width of an item as the catalogue knows it; a PRN in neither table has none.
 unfoldable pub widthOf : Option PrnRow → ℕ

@@ -1,13 +1,12 @@
 -- Laws of the report's answer, by case.
 use mathlib.Core.Path.{_≡_, refl, sym, ap, _∙_}
-use mathlib.Core.List.{List, [], _∷_, _++_}
+use mathlib.Core.List.{List, _++_}
 use Prim.Native.Nat.{ℕ, _+_, _≤_, _<_}
 use native.Mathlib.Omega.{arith}
 use borrow.Author.Tests.{lt-ltb, le-ltb, eq-eqb, ne-eqb, eqb-true, eqb-false}
 use lib.Dec.{eqb, ltb}
 use lib.ListN.{length, length-append}
 use Rattle.frame.specs.Frame.{Parts}
-use Rattle.frame.specs.Bytes.{placed}
 use Rattle.frame.specs.Refusal.{OutputShort, NoRefusal, Outcome}
 use Rattle.frame.specs.Refusal as frame
 use Rattle.frame.proofs.bytes.Laws.{cases}

@@ -9,7 +9,7 @@ use Rattle.report.specs.declared.line.Held.{Held}
 use Rattle.report.specs.declared.line.Line.{Line}
 use Rattle.report.specs.declared.lines.Report.{Report}
 use Rattle.report.specs.declared.tally.Tally.{Tally}
-use Rattle.report.specs.Contracts.{MostLines, weight, together, tallyOf, firstLines, linesIn, Shows}
+use Rattle.report.specs.Contracts.{MostLines, weight, together, firstLines, linesIn, Shows}
 use Rattle.report.proofs.tally.Laws.{tally-snoc}
 
 held-set : (held : List Held) (i : ℕ) (h : Held) → i < length held → firstLines (suc i) (set held i h) ≡ firstLines i held ++ h .line ∷ []

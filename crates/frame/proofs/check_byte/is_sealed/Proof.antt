@@ -1,6 +1,5 @@
 -- An empty run has no last byte; otherwise the two sides of the comparison are those of the definition.
 use mathlib.Core.Path.{sym}
-use Prim.Native.Nat.{_-_}
 use native.Mathlib.Omega.{arith}
 use borrow.Author.Needs.{needs}
 use borrow.Author.Tests.{le-ltb, lt-ltb}

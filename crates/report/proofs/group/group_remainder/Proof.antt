@@ -3,9 +3,6 @@ use borrow.Author.Needs.{needs}
 use mathlib.Core.Path.{sym}
 use Rattle.report.proofs.group.group_remainder.Statement.{statement}
 use Rattle.report.proofs.group.group_remainder.Tie as tie
-use Rattle.report.proofs.group.group_remainder.Reads as reads
-use Rattle.report.proofs.group.group_remainder.Lts as lts
-use Rattle.report.proofs.group.remainder_line.Reads as remainder-line-reads
 
 remainder-line-requires : tie.Need-remainder-line-requires
 remainder-line-requires c κs = search needs

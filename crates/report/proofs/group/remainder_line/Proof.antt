@@ -6,8 +6,6 @@ use Rattle.report.specs.Report.{remainderAt}
 use Rattle.report.specs.Contracts.{Inside}
 use Rattle.report.proofs.group.remainder_line.Statement.{statement}
 use Rattle.report.proofs.group.remainder_line.Tie as tie
-use Rattle.report.proofs.group.remainder_line.Reads as reads
-use Rattle.report.proofs.group.remainder_line.Lts as lts
 
 enum-known-place : tie.Need-enum-known-place
 enum-known-place c = search needs

@@ -8,9 +8,6 @@ use Rattle.report.specs.Items.{itemLine}
 use Rattle.report.specs.Contracts.{MostBits, Lying}
 use Rattle.report.proofs.items.item_line.Statement.{statement}
 use Rattle.report.proofs.items.item_line.Tie as tie
-use Rattle.report.proofs.items.item_line.Reads as reads
-use Rattle.report.proofs.items.item_line.Lts as lts
-use Rattle.report.proofs.items.slot_line.Reads as slot-line-reads
 
 enum-told : tie.Need-enum-told
 enum-told c = search needs

@@ -8,10 +8,6 @@ use Rattle.report.proofs.bits.Laws.{cut-lt}
 use Rattle.report.proofs.scaling.Laws.{form-high, form-wide}
 use Rattle.report.proofs.items.known_line.Statement.{statement}
 use Rattle.report.proofs.items.known_line.Tie as tie
-use Rattle.report.proofs.items.known_line.Reads as reads
-use Rattle.report.proofs.items.known_line.Lts as lts
-use Rattle.report.proofs.bits.cut_bits.Reads as cut-bits-reads
-use Rattle.report.proofs.scaling.form_line.Reads as form-line-reads
 
 returns : tie.Need-returns
 returns c =

@@ -9,10 +9,6 @@ use Rattle.catalogue.proofs.lookup.Laws.{slot-keyed}
 use Rattle.report.specs.Items.{slotLine}
 use Rattle.report.proofs.items.slot_line.Statement.{statement}
 use Rattle.report.proofs.items.slot_line.Tie as tie
-use Rattle.report.proofs.items.slot_line.Reads as reads
-use Rattle.report.proofs.items.slot_line.Lts as lts
-use Rattle.catalogue.proofs.lookup.find_slot.Reads as find-slot-reads
-use Rattle.report.proofs.items.known_line.Reads as known-line-reads
 
 find-slot-requires : tie.Need-find-slot-requires
 find-slot-requires c κs = search needs

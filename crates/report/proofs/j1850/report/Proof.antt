@@ -7,7 +7,7 @@ use native.Mathlib.Nat.{add-sub-cancel-left}
 use lib.ListN.{length, take, drop, length-take, length-drop}
 use lib.Seq.{length-take-le}
 use Rattle.frame.specs.Frame.{Parts}
-use Rattle.frame.specs.Refusal.{Outcome, accepted}
+use Rattle.frame.specs.Refusal.{accepted}
 use Rattle.frame.specs.Reader.{readFrame, Sizes, sizes, readingOf, SizesHanded}
 use Rattle.frame.proofs.reader.Laws.{sizes-handed, CutOut, cut-out, refusal-handed}
 use Rattle.catalogue.specs.Supplement.{Accepted}

@@ -5,8 +5,6 @@ use lib.ListN.{length}
 use Rattle.report.specs.Report.{present}
 use Rattle.report.proofs.message.present_in.Statement.{statement}
 use Rattle.report.proofs.message.present_in.Tie as tie
-use Rattle.report.proofs.message.present_in.Reads as reads
-use Rattle.report.proofs.message.present_in.Lts as lts
 
 returns : tie.Need-returns
 unfolding present

@@ -8,13 +8,6 @@ use Rattle.catalogue.specs.Supplement.{recordsOf}
 use Rattle.catalogue.specs.Lookup.{layoutFound}
 use Rattle.report.proofs.message.sought.Statement.{statement}
 use Rattle.report.proofs.message.sought.Tie as tie
-use Rattle.report.proofs.message.sought.Reads as reads
-use Rattle.report.proofs.message.sought.Lts as lts
-use Rattle.catalogue.proofs.lookup.find_layout.Reads as find-layout-reads
-use Rattle.frame.proofs.bytes.byte_at.Reads as byte-at-reads
-use Rattle.report.proofs.message.key_byte.Reads as key-byte-reads
-use Rattle.report.proofs.message.key_target.Reads as key-target-reads
-use Rattle.report.proofs.message.present_in.Reads as present-in-reads
 
 key-byte-requires : tie.Need-key-byte-requires
 key-byte-requires c κs = search needs

@@ -7,8 +7,6 @@ use Rattle.report.specs.Spots.{behind}
 use Rattle.report.specs.Contracts.{MostBits, Lying}
 use Rattle.report.proofs.spots.place_behind.Statement.{statement}
 use Rattle.report.proofs.spots.place_behind.Tie as tie
-use Rattle.report.proofs.spots.place_behind.Reads as reads
-use Rattle.report.proofs.spots.place_behind.Lts as lts
 
 enum-told : tie.Need-enum-told
 enum-told c = search needs

@@ -5,8 +5,6 @@ use native.Mathlib.Omega.{arith}
 use Rattle.report.proofs.spots.Laws.{spot-over, spot-lies}
 use Rattle.report.proofs.spots.spot_at.Statement.{statement}
 use Rattle.report.proofs.spots.spot_at.Tie as tie
-use Rattle.report.proofs.spots.spot_at.Reads as reads
-use Rattle.report.proofs.spots.spot_at.Lts as lts
 
 cast-if1 : tie.Need-cast-if1
 cast-if1 c = search needs

@@ -10,10 +10,6 @@ use Rattle.report.specs.Spots.{spotAt, spotOf}
 use Rattle.report.specs.Contracts.{Inside}
 use Rattle.report.proofs.spots.spot_of.Statement.{statement}
 use Rattle.report.proofs.spots.spot_of.Tie as tie
-use Rattle.report.proofs.spots.spot_of.Reads as reads
-use Rattle.report.proofs.spots.spot_of.Lts as lts
-use Rattle.catalogue.proofs.lookup.find_prn.Reads as find-prn-reads
-use Rattle.report.proofs.spots.spot_at.Reads as spot-at-reads
 
 enum-told : tie.Need-enum-told
 enum-told c = search needs

@@ -5,8 +5,6 @@ use Rattle.report.specs.Rows.{rowsOf}
 use Rattle.report.specs.Contracts.{tallyOf}
 use Rattle.report.proofs.tally.no_lines.Statement.{statement}
 use Rattle.report.proofs.tally.no_lines.Tie as tie
-use Rattle.report.proofs.tally.no_lines.Reads as reads
-use Rattle.report.proofs.tally.no_lines.Lts as lts
 
 returns : tie.Need-returns
 unfolding tallyOf any rowsOf

@@ -1,20 +1,15 @@
 -- Each mark with the line's own, and the size of its row.
 use borrow.Author.Needs.{needs}
 use mathlib.Core.Path.{_≡_, ap, _∙_}
-use mathlib.Core.Bool.{Bool, _||_}
-use Prim.Native.Nat.{ℕ, _+_}
+use mathlib.Core.Bool.{_||_}
+use Prim.Native.Nat.{_+_}
 use lib.ListN.{length}
 use native.Mathlib.Omega.{arith}
 use Rattle.report.specs.declared.tally.Tally.{Tally}
 use Rattle.report.specs.Rows.{row}
-use Rattle.report.specs.Contracts.{weight}
 use Rattle.report.proofs.row.Laws.{row-most}
 use Rattle.report.proofs.tally.tallied.Statement.{statement}
 use Rattle.report.proofs.tally.tallied.Tie as tie
-use Rattle.report.proofs.tally.tallied.Reads as reads
-use Rattle.report.proofs.tally.tallied.Lts as lts
-use Rattle.report.proofs.tally.either.Reads as either-reads
-use Rattle.report.proofs.tally.weight_of.Reads as weight-of-reads
 
 weight-of-requires : tie.Need-weight-of-requires
 weight-of-requires c κs = search needs

@@ -5,9 +5,6 @@ use Rattle.report.specs.Rows.{bigEndian, row}
 use Rattle.report.specs.Contracts.{weight}
 use Rattle.report.proofs.tally.weight_of.Statement.{statement}
 use Rattle.report.proofs.tally.weight_of.Tie as tie
-use Rattle.report.proofs.tally.weight_of.Reads as reads
-use Rattle.report.proofs.tally.weight_of.Lts as lts
-use Rattle.report.proofs.tally.plain.Reads as plain-reads
 
 enum-told : tie.Need-enum-told
 enum-told c = search needs
