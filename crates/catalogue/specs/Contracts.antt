@@ -45,9 +45,10 @@ unfoldable pub recordIn : List ℕ → Option (List ℕ)
 recordIn [] = none
 recordIn (b ∷ r) = some (b ∷ r)
 
--- The first PRNs of a layout record, read into an array.
+-- The first PRNs of a layout record, read into an array of zeros.
 pub record PrnsRead (r prns : List ℕ) (n : ℕ) : Type 0 where
   pub each : (j : ℕ) → j < n → getD prns j 0 ≡ two r (PrnsAt + j * 2)
+  pub rest : (j : ℕ) → n ≤ j → getD prns j 0 ≡ 0
   pub room : length prns ≡ MostPrns
   pub most : n ≤ MostPrns
 

@@ -1,8 +1,8 @@
 -- What SAE tables and a list of records hold together.
-use Prim.Native.Nat.{ℕ, _/_, _%_, min}
+use Prim.Native.Nat.{ℕ, _-_, _/_, _%_, min}
 use mathlib.Core.Path.{_≡_}
 use mathlib.Core.Bool.{true, false, cond}
-use mathlib.Core.List.{List, [], _∷_}
+use mathlib.Core.List.{List, [], _∷_, _++_}
 use mathlib.Core.Option.{Option, none, some}
 use lib.ListN.{take, replicate}
 use Rattle.catalogue.specs.declared.rows.PrnRow.{PrnRow}
@@ -53,10 +53,14 @@ pub record Within (c d : Catalogue) : Type 0 where
   pub slot : (f w n : ℕ) (row : SlotRow) → c .slot f w n ≡ some row → d .slot f w n ≡ some row
   pub layout : (key : List ℕ) → FullKey key → (l : LayoutRow) → c .layout key ≡ some l → d .layout key ≡ some l
 
--- The answer of the layout's call: the sixteen PRNs and how many are used, at most sixteen; nothing found, zeros.
+-- So many PRNs of a layout record, and zeros in the other places.
+unfoldable pub prnsUsed : ℕ → List ℕ → List ℕ
+prnsUsed n r = take n (layoutPlaces r) ++ replicate (MostPrns - n) 0
+
+-- The answer of the layout's call: how many PRNs it uses, at most sixteen, and these; nothing found, none.
 unfoldable pub layoutFound : Option (List ℕ) → LayoutFound
 layoutFound none = record { found = false; count = 0; prns = replicate MostPrns 0 }
-layoutFound (some r) = record { found = true; count = min (layoutCount r) MostPrns; prns = layoutPlaces r }
+layoutFound (some r) = let n = min (layoutCount r) MostPrns in record { found = true; count = n; prns = prnsUsed n r }
 
 -- Its value: the PRNs, if a layout was found.
 abbrev pub layoutOf : LayoutFound → Option LayoutRow

@@ -15,11 +15,12 @@ use crate::supplement::bytes_with;
 use frame::bytes::byte_at;
 ghost use mathlib.Core.Path.{_≡_};
 ghost use mathlib.Core.Option.{none};
+ghost use Prim.Native.Nat.{_≤_};
 ghost use Rattle.catalogue.specs.Rows.{prnOf, slotOf};
-ghost use Rattle.catalogue.specs.Record.{recordWith, prnRow, slotRow, layoutPlaces};
+ghost use Rattle.catalogue.specs.Record.{MostPrns, recordWith, prnRow, slotRow};
 ghost use Rattle.catalogue.specs.Supplement.{recordsOf};
 ghost use Rattle.catalogue.specs.Contracts.{recordIn};
-ghost use Rattle.catalogue.specs.Lookup.{prnKey, slotKey, orRecord, catalogue, layoutFound};
+ghost use Rattle.catalogue.specs.Lookup.{prnKey, slotKey, orRecord, catalogue, prnsUsed, layoutFound};
 
 // The PRNs of a layout: as many of the sixteen as the count says, if it was found.
 pub struct LayoutFound {
@@ -80,12 +81,13 @@ pub fn find_slot(s: &[u8], form: u8, width: u8, number: u16) -> SlotFound
     }
 }
 
-// The sixteen PRNs of a layout record.
-fn prns_of(bytes: &[u8]) -> [u16; MOST_PRNS]
-    ensures { λ r. ⌜ r ≡ layoutPlaces (now (bytes .entry)) ⌝ }
+// So many PRNs of a layout record. Most layouts use few of the sixteen.
+fn prns_of(bytes: &[u8], count: usize) -> [u16; MOST_PRNS]
+    requires { ⌜ count ≤ MostPrns ⌝ }
+    ensures { λ r. ⌜ r ≡ prnsUsed count (now (bytes .entry)) ⌝ }
 {
     let mut prns = [0u16; MOST_PRNS];
-    for i in 0..MOST_PRNS {
+    for i in 0..count {
         prns[i] = two_at(bytes, LAYOUT_PRNS + i * 2);
     }
     prns
@@ -109,11 +111,12 @@ fn layout_of(bytes: &[u8]) -> LayoutFound
             prns: [0; MOST_PRNS],
         };
     }
-    let count = byte_at(bytes, LAYOUT_COUNT) as usize;
-    let prns = prns_of(bytes);
+    let said = byte_at(bytes, LAYOUT_COUNT) as usize;
+    let count = if said < MOST_PRNS { said } else { MOST_PRNS };
+    let prns = prns_of(bytes, count);
     LayoutFound {
         found: true,
-        count: if count < MOST_PRNS { count } else { MOST_PRNS },
+        count,
         prns,
     }
 }

@@ -3,12 +3,12 @@ use mathlib.Core.Path.{_≡_, refl, sym, ap, _∙_, subst}
 use mathlib.Core.Bool.{true, false}
 use mathlib.Core.Option.{Option, none, some}
 use mathlib.Core.List.{List, List·Memᴰ}
-use Prim.Native.Nat.{ℕ, min, _≤_, _<_}
+use Prim.Native.Nat.{ℕ, _-_, min, _≤_, _<_}
 use native.Mathlib.Omega.{arith}
 use borrow.Author.Tests.{leb-true, leb-false}
 use lib.Dec.{leb}
-use lib.ListN.{length, take, getD, length-take}
-use lib.Seq.{take-all, getD-take}
+use lib.ListN.{length, take, getD, replicate, length-take, length-append, length-replicate}
+use lib.Seq.{take-all, take-append-le, length-take-le, getD-take}
 use Rattle.frame.specs.Bytes.{Bytes}
 use Rattle.frame.proofs.bytes.Laws.{cases}
 use Rattle.catalogue.specs.declared.rows.PrnRow.{PrnRow}
@@ -18,7 +18,7 @@ use Rattle.catalogue.specs.Sae.{saePrn, saeSlot}
 use Rattle.catalogue.specs.Record.{recordKind, recordWith, FullKey, prnRow, slotRow, inRange}
 use Rattle.catalogue.specs.Record.{LayoutRow, MostPrns, PrnsAt, layoutCount, layoutPlaces, layoutRow}
 use Rattle.catalogue.specs.Supplement.{recordsOf, Good}
-use Rattle.catalogue.specs.Lookup.{prnKey, slotKey, layoutKey, orRecord, catalogueOf, catalogue, layoutFound, layoutOf}
+use Rattle.catalogue.specs.Lookup.{prnKey, slotKey, layoutKey, orRecord, catalogueOf, catalogue, prnsUsed, layoutFound, layoutOf}
 use Rattle.catalogue.proofs.rows.Laws.{sized-slot}
 use Rattle.catalogue.proofs.sae.Laws.{sae-prn-fits, sae-slot-fits}
 use Rattle.catalogue.proofs.kind.Laws.{key-sizes}
@@ -33,10 +33,29 @@ take-most n l e =
     let h : min n MostPrns ≡ MostPrns = omega (arith, leb-false n MostPrns f) in
     ap (λ (m : ℕ). take m l) h ∙ take-all MostPrns l (omega arith) ∙ sym (take-all n l (omega (arith, leb-false n MostPrns f))))
 
+-- So many PRNs that are used are the first places, and there are sixteen places.
+used-taken : (n : ℕ) (r : List ℕ) → n ≤ MostPrns → take n (prnsUsed n r) ≡ take n (layoutPlaces r)
+unfolding prnsUsed
+used-taken n r h =
+    let first : List ℕ = take n (layoutPlaces r) in
+    let size : length first ≡ n = length-take-le n (layoutPlaces r) (omega (arith, length-numbers MostPrns PrnsAt r)) in
+    take-append-le n first (replicate (MostPrns - n) 0) (omega (arith, size)) ∙ take-all n first (omega (arith, size))
+
+used-length : (n : ℕ) (r : List ℕ) → n ≤ MostPrns → length (prnsUsed n r) ≡ MostPrns
+unfolding prnsUsed
+used-length n r h =
+    let first : List ℕ = take n (layoutPlaces r) in
+    let size : length first ≡ n = length-take-le n (layoutPlaces r) (omega (arith, length-numbers MostPrns PrnsAt r)) in
+    omega (arith, length-append first (replicate (MostPrns - n) 0), size, length-replicate {A = ℕ} (MostPrns - n) 0)
+
 layout-value : (o : Option (List ℕ)) → layoutOf (layoutFound o) ≡ orRecord none layoutRow o
 unfolding layoutFound orRecord layoutRow
 layout-value none = refl
-layout-value (some r) = λ i. some (record { prns = take-most (layoutCount r) (layoutPlaces r) (length-numbers MostPrns PrnsAt r) i })
+layout-value (some r) =
+    let n : ℕ = min (layoutCount r) MostPrns in
+    let prns : take n (prnsUsed n r) ≡ take (layoutCount r) (layoutPlaces r) =
+    used-taken n r (omega arith) ∙ take-most (layoutCount r) (layoutPlaces r) (length-numbers MostPrns PrnsAt r) in
+    λ i. some (record { prns = prns i })
 
 -- The value of a layout's answer is the catalogue's.
 pub layout-told : (s key : List ℕ) → layoutOf (layoutFound (recordWith key (recordsOf s))) ≡ catalogue s .layout key
@@ -49,7 +68,8 @@ pub layout-sized :
     → (layoutFound o .count ≤ MostPrns) × (length (layoutFound o .prns) ≡ MostPrns) × (layoutFound o .found ≡ false → layoutFound o .count ≡ 0)
 unfolding layoutFound
 layout-sized none = (omega arith, refl, λ e. refl)
-layout-sized (some r) = (omega arith, length-numbers MostPrns PrnsAt r, λ e. let z : _≡_ {A = ℕ} 0 1 = cc in omega arith)
+layout-sized (some r) =
+    (omega arith, used-length (min (layoutCount r) MostPrns) r (omega arith), λ e. let z : _≡_ {A = ℕ} 0 1 = cc in omega arith)
 
 -- The keys sought are as long as their kinds say.
 pub prn-key-full : (p : ℕ) → FullKey (prnKey p)
