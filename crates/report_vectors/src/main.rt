@@ -9,6 +9,7 @@ use libc::STDOUT_FILENO;
 ghost use mathlib.Core.Path.{_≡_};
 ghost use Prim.Native.Nat.{_<_};
 ghost use lib.ListN.{length};
+ghost use Rattle.report_vectors.specs.Input.{SupplementBuffer, NumberEnd};
 
 const SUPPLEMENT: usize = 16400;
 
@@ -16,7 +17,7 @@ const RUN: usize = 16;
 
 const BUFFER: usize = 160;
 
-const TEXT: usize = 2 * BUFFER;
+const TEXT: usize = BYTE_DIGITS * BUFFER;
 
 // How many bytes behind the lent ones are shown.
 const BEHIND: usize = 2;
@@ -25,6 +26,10 @@ const FILLING: u8 = 0xA5;
 
 // Four digits and the character behind them.
 const HEAD: usize = 5;
+
+const BYTE_DIGITS: usize = 2;
+
+const BYTE_VALUES: usize = 256;
 
 const WORD_DIGITS: usize = 16;
 
@@ -35,31 +40,21 @@ struct Number {
 }
 
 fn supplement_buffer() -> [u8; SUPPLEMENT]
-    ensures { λ r. ⌜ 16400 ≡ length r ⌝ }
+    ensures { λ r. ⌜ SupplementBuffer ≡ length r ⌝ }
 {
     [0; SUPPLEMENT]
 }
 
-// The first n of the bytes, or all where they are fewer.
-fn counted(bytes: &[u8], n: usize) -> &[u8] {
-    if n < bytes.len() { &bytes[..n] } else { bytes }
-}
-
-// The same of a buffer that is written to.
-fn lent(out: &mut [u8], n: usize) -> &mut [u8] {
-    if n < out.len() { &mut out[..n] } else { out }
-}
-
 fn read_number() -> Number
-    ensures { λ r. ⌜ r .value < 65536 ⌝ }
+    ensures { λ r. ⌜ r .value < NumberEnd ⌝ }
 {
     let mut text = [0u8; HEAD];
     let got = io::read_full(STDIN_FILENO, &mut text);
     let high = hex::byte_from(&text, 0) as usize;
-    let low = hex::byte_from(&text, 2) as usize;
+    let low = hex::byte_from(&text, BYTE_DIGITS) as usize;
     Number {
         there: got == HEAD,
-        value: high * 256 + low,
+        value: high * BYTE_VALUES + low,
     }
 }
 
@@ -67,9 +62,9 @@ fn read_number() -> Number
 fn read_run(run: &mut [u8]) -> Number {
     let number = read_number();
     let n = number.value;
-    let size = n * 2 + 1;
+    let size = n * BYTE_DIGITS + 1;
     let mut text = io::large_buffer();
-    let got = io::read_full(STDIN_FILENO, lent(&mut text, size));
+    let got = io::read_full(STDIN_FILENO, hex::lent(&mut text, size));
     hex::fill(&text, run);
     Number {
         there: got == size && n <= run.len(),
@@ -80,17 +75,22 @@ fn read_run(run: &mut [u8]) -> Number {
 fn show_bytes(bytes: &[u8]) {
     let mut text = [0u8; TEXT];
     let n = hex::write_text(bytes, &mut text);
-    io::write_all(STDOUT_FILENO, counted(&text, n));
+    io::write_all(STDOUT_FILENO, hex::counted(&text, n));
 }
 
 fn run_case(supplement: &[u8], first: &[u8], response: &[u8], room: usize)
-    requires { ⌜ room < 65536 ⌝ }
+    requires { ⌜ room < NumberEnd ⌝ }
 {
     let mut out = [FILLING; BUFFER];
-    let answer = c_api::rakhubole_j1850_report(supplement, first, response, lent(&mut out, room));
+    let answer = c_api::rakhubole_j1850_report(
+        supplement,
+        first,
+        response,
+        hex::lent(&mut out, room),
+    );
     io::print_hex(STDOUT_FILENO, answer, WORD_DIGITS);
     io::write_all(STDOUT_FILENO, b" ");
-    show_bytes(counted(&out, room + BEHIND));
+    show_bytes(hex::counted(&out, room + BEHIND));
     io::write_all(STDOUT_FILENO, b"\n");
 }
 
@@ -107,9 +107,9 @@ fn next_case() -> bool {
         return false;
     }
     run_case(
-        counted(&supplement, s.value),
-        counted(&first, f.value),
-        counted(&response, r.value),
+        hex::counted(&supplement, s.value),
+        hex::counted(&first, f.value),
+        hex::counted(&response, r.value),
         room.value,
     );
     true
