@@ -27,7 +27,15 @@ pub key-of-one : (h : List ℕ) → (headerSize h ≡ ThreeByteForm → ⊥) →
 unfolding keyByte keyTarget
 key-of-one h e = (rw (three-exactly h, ne-eqb (headerSize h) ThreeByteForm e), rw (three-exactly h, ne-eqb (headerSize h) ThreeByteForm e))
 
--- The selector is within the data.
+-- There is a selector exactly where there are data, and it is within them.
+pub present-none : (body : List ℕ) → length body ≡ 0 → present body ≡ 0
+unfolding present
+present-none body e = rw (eq-eqb (length body) 0 e)
+
+pub present-some : (body : List ℕ) → (length body ≡ 0 → ⊥) → present body ≡ 1
+unfolding present
+present-some body e = rw (ne-eqb (length body) 0 e)
+
 pub present-within : (body : List ℕ) → 8 * present body ≤ 8 * length body
 unfolding present
 present-within body =

@@ -1,12 +1,12 @@
 -- Laws of the tests over lines.
 use mathlib.Core.Path.{_≡_, refl, sym, ap, _∙_}
 use mathlib.Core.Logic.{⊎-elim}
-use mathlib.Core.Bool.{Bool, true, _||_, true≢false}
+use mathlib.Core.Bool.{Bool, true, false, _||_, true≢false}
 use mathlib.Core.List.{List, [], _∷_, _++_, List·Memᴰ, List·Memᴰ·head, List·Memᴰ·tail, List·Memᴰ·cases-cons, List·Memᴰ·not-nil}
 use Rattle.frame.proofs.bytes.Laws.{cases}
 use Rattle.report.specs.declared.line.Line.{Line}
 use Rattle.report.specs.declared.tally.Tally.{Tally}
-use Rattle.report.specs.Verdict.{any, verdictBy, verdictOf}
+use Rattle.report.specs.Verdict.{VerdictClear, VerdictFlagged, VerdictUnknown, any, verdictBy, verdictOf}
 use Rattle.report.specs.Contracts.{tallyOf}
 
 -- A test that holds for a line of the list, and the line that it holds for.
@@ -34,3 +34,14 @@ any-snoc p (k ∷ ls) l = cases (p k) (λ t. rw t) (λ f. rw f (any-snoc p ls l)
 pub verdict-told : (ls : List Line) {t : Tally} → t ≡ tallyOf ls → verdictBy (t .flagged) (t .unknown) ≡ verdictOf ls
 unfolding verdictOf tallyOf
 verdict-told ls e = λ i. verdictBy (e i .flagged) (e i .unknown)
+
+-- The verdict by its two tests.
+module _ (flagged unknown : Bool) where
+  pub by-flagged : flagged ≡ true → verdictBy flagged unknown ≡ VerdictFlagged
+  by-flagged e = rw e
+
+  pub by-unknown : flagged ≡ false → unknown ≡ true → verdictBy flagged unknown ≡ VerdictUnknown
+  by-unknown e f = rw (e, f)
+
+  pub by-neither : flagged ≡ false → unknown ≡ false → verdictBy flagged unknown ≡ VerdictClear
+  by-neither e f = rw (e, f)

@@ -71,6 +71,14 @@ part c =
     let body = c .before .before .before .before .before .before .before .args .body .now in
     record { bytes = body; from = 8 * c .before .before .present-in .result; to = 8 * length body; prns = λ l. l .prns }
 
+-- what is promised of the group, said of that part
+grouped :
+    (c : tie.After-with-group)
+    → let at = c .before .before .before in
+    let cat = catalogue (at .before .before .before .before .args .s .now) in
+    Shows (c .with-group .result) (linesIn (c .before .empty .result) ++ groupLines (groupOf cat (layoutOf (at .sought .result)) (part c) ∷ []))
+grouped c = c .with-group .ensures
+
 few : (c : tie.After-with-group) → c .with-group .result .count ≤ MostPrns + 1
 few c =
     let at = c .before .before .before in
@@ -80,7 +88,7 @@ few c =
     let lines : List Line = groupLines (groupOf cat o (part c) ∷ []) in
     let sixteen = items-most cat o (part c) MostPrns (λ l e. layout-sixteen (recordsOf (a .s .now)) _ l (sym (told at) ∙ e)) in
     let empty : length (linesIn (c .before .empty .result)) ≡ 0 = ap length (c .before .empty .ensures .lines) in
-    omega (arith, c .with-group .ensures .count, length-append (linesIn (c .before .empty .result)) lines, empty, group-count cat o (part c), sixteen)
+    omega (arith, grouped c .count, length-append (linesIn (c .before .empty .result)) lines, empty, group-count cat o (part c), sixteen)
 
 mul-held : tie.Need-mul-held
 mul-held c = omega (arith, few (c .before .before), c .before .before .with-group .ensures .room)
@@ -105,7 +113,7 @@ returns c =
     let o = layoutOf (at .before .before .before .sought .result) in
     let group = at .with-group in
     let lines : linesIn (group .result) ≡ groupLines (groupOf cat o (part at) ∷ []) =
-    group .ensures .lines ∙ ap (λ (ls : List Line). ls ++ groupLines (groupOf cat o (part at) ∷ [])) (at .before .empty .ensures .lines) in
+    grouped at .lines ∙ ap (λ (ls : List Line). ls ++ groupLines (groupOf cat o (part at) ∷ [])) (at .before .empty .ensures .lines) in
     let from : 8 * at .before .before .present-in .result ≡ 8 * present (a .body .now) =
     ap (λ (n : ℕ). 8 * n) (at .before .before .present-in .ensures) in
     subst (Shows _)

@@ -31,9 +31,11 @@ returns : tie.Need-returns
 returns c =
     let t = c .before .before .before .before .before .args .tally in
     let w = c .before .before .before .before .weight-of .ensures in
+    let line : Tally = c .before .before .before .before .weight-of .result in
+    let flagged : c .before .before .before .either .result ≡ (t .flagged || line .flagged) = c .before .before .before .either .ensures in
     λ i.
     record {
-      flagged = (c .before .before .before .either .ensures ∙ ap (λ (u : Tally). t .flagged || u .flagged) w) i;
+      flagged = (flagged ∙ ap (λ (u : Tally). t .flagged || u .flagged) w) i;
       unknown = (c .before .before .either2 .ensures ∙ ap (λ (u : Tally). t .unknown || u .unknown) w) i;
       size = t .size + w i .size;
     }
