@@ -3,21 +3,21 @@ use crate::tally::Tally;
 ghost use mathlib.Core.Path.{_≡_};
 ghost use Rattle.report.specs.Verdict.{verdictBy};
 
-const CLEAR: u8 = 1;
+const VERDICT_CLEAR: u8 = 1;
 
-const FLAGGED: u8 = 2;
+const VERDICT_FLAGGED: u8 = 2;
 
-const UNKNOWN: u8 = 3;
+const VERDICT_UNKNOWN: u8 = 3;
 
 // Flagged, otherwise Unknown, otherwise Clear.
 pub(crate) fn verdict_of(tally: Tally) -> u8
     ensures { λ r. ⌜ r ≡ verdictBy (tally .flagged) (tally .unknown) ⌝ }
 {
     if tally.flagged {
-        return FLAGGED;
+        return VERDICT_FLAGGED;
     }
     if tally.unknown {
-        return UNKNOWN;
+        return VERDICT_UNKNOWN;
     }
-    CLEAR
+    VERDICT_CLEAR
 }
