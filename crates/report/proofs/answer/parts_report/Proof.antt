@@ -20,9 +20,6 @@ use Rattle.report.proofs.answer.Laws.{rows-told, size-told, verdict-len
 use Rattle.report.proofs.answer.parts_report.Statement.{statement}
 use Rattle.report.proofs.answer.parts_report.Tie as tie
 
-message-report-requires : tie.Need-message-report-requires
-message-report-requires c κs = search needs
-
 -- the report that is asked for, and its rows
 abbrev report : tie.After-message-report → Report
 report c =
@@ -67,9 +64,6 @@ put-report-requires c κs =
     let long : length (rowsOf ls) + ByteRow ≡ length (asked at) = sym (verdict-length (rowsOf ls) (verdictOf ls)) ∙ ap length (told at) in
     (shows-own r _ (at .message-report .ensures), holds at, omega (arith, long, size at, c .before .if1 .left))
 
-same-length : tie.Need-same-length
-same-length c = search needs
-
 returns-2 : tie.Need-returns-2
 returns-2 c =
     let at = c .before .before .before .before .before .before .before in
@@ -80,4 +74,4 @@ returns-2 c =
 pub parts-report-spec : {M : Type 1} → statement M
 parts-report-spec =
     tie.close
-    (tie.spec message-report-requires add-size returns put-report-requires same-length returns-2)
+    (tie.spec (λ c κs. search needs) add-size returns put-report-requires (λ c. search needs) returns-2)

@@ -19,15 +19,6 @@ loop-holds : tie.Need-loop-holds Inv-loop μ-loop
 unfolding cut
 loop-holds c = omega arith
 
-cast-i : tie.Need-cast-i Inv-loop μ-loop
-cast-i c = search needs
-
-add-i : tie.Need-add-i Inv-loop μ-loop
-add-i c = search needs
-
-sub-if2 : tie.Need-sub-if2 Inv-loop μ-loop
-sub-if2 c = search needs
-
 mul-raw : tie.Need-mul-raw Inv-loop μ-loop
 mul-raw c =
     let start = c .before .before .before .before .before in
@@ -35,24 +26,12 @@ mul-raw c =
     let w = c .before .before .before .loop .w in
     omega (arith, cut-below (a .s .now) (a .at) w 24 (omega (arith, leb-true 8 (a .width - w) (c .if2 .taken), start .pre .1)))
 
-byte-at-requires : tie.Need-byte-at-requires Inv-loop μ-loop
-byte-at-requires c κs = search needs
-
-cast-raw : tie.Need-cast-raw Inv-loop μ-loop
-cast-raw c = search needs
-
 add-raw : tie.Need-add-raw Inv-loop μ-loop
 add-raw c =
     let start = c .before .before .before .before .before .before in
     let a = start .args in
     let w = c .before .before .before .before .loop .w in
     omega (arith, cut-below (a .s .now) (a .at) w 24 (omega (arith, leb-true 8 (a .width - w) (c .before .if2 .taken), start .pre .1)))
-
-add-w : tie.Need-add-w Inv-loop μ-loop
-add-w c = search needs
-
-loop-less : tie.Need-loop-less Inv-loop μ-loop
-loop-less c = search needs
 
 loop-again : tie.Need-loop-again Inv-loop μ-loop
 loop-again c =
@@ -67,23 +46,11 @@ mul-raw-2 c =
     let w = c .before .before .loop .w in
     omega (arith, cut-below (a .s .now) (a .at) w 31 (omega arith))
 
-bit-at-requires : tie.Need-bit-at-requires Inv-loop μ-loop
-bit-at-requires c κs = search needs
-
-cast-raw-2 : tie.Need-cast-raw-2 Inv-loop μ-loop
-cast-raw-2 c = search needs
-
 add-raw-2 : tie.Need-add-raw-2 Inv-loop μ-loop
 add-raw-2 c =
     let a = c .before .before .before .before .before .args in
     let w = c .before .before .before .loop .w in
     omega (arith, cut-below (a .s .now) (a .at) w 31 (omega arith), bit-lt (a .s .now) (a .at + w))
-
-add-w-2 : tie.Need-add-w-2 Inv-loop μ-loop
-add-w-2 c = search needs
-
-loop-less-2 : tie.Need-loop-less-2 Inv-loop μ-loop
-loop-less-2 c = search needs
 
 loop-again-2 : tie.Need-loop-again-2 Inv-loop μ-loop
 loop-again-2 c =
@@ -103,21 +70,21 @@ cut-bits-spec =
     Inv-loop
     μ-loop
     loop-holds
-    cast-i
-    add-i
-    sub-if2
+    (λ c. search needs)
+    (λ c. search needs)
+    (λ c. search needs)
     mul-raw
-    byte-at-requires
-    cast-raw
+    (λ c κs. search needs)
+    (λ c. search needs)
     add-raw
-    add-w
-    loop-less
+    (λ c. search needs)
+    (λ c. search needs)
     loop-again
     mul-raw-2
-    bit-at-requires
-    cast-raw-2
+    (λ c κs. search needs)
+    (λ c. search needs)
     add-raw-2
-    add-w-2
-    loop-less-2
+    (λ c. search needs)
+    (λ c. search needs)
     loop-again-2
     returns)

@@ -7,9 +7,6 @@ use Rattle.report.specs.Contracts.{Inside}
 use Rattle.report.proofs.group.remainder_line.Statement.{statement}
 use Rattle.report.proofs.group.remainder_line.Tie as tie
 
-enum-known-place : tie.Need-enum-known-place
-enum-known-place c = search needs
-
 inside : (c : tie.After-known-told) → c .before .place .given .0 .0 ≤ c .before .before .before .args .to
 inside c =
     let start = c .before .before .before in
@@ -17,15 +14,6 @@ inside c =
 
 sub-t5 : tie.Need-sub-t5
 sub-t5 c = inside c
-
-cast-t6 : tie.Need-cast-t6
-cast-t6 c = search needs
-
-enum-told : tie.Need-enum-told
-enum-told c = search needs
-
-enum-told-2 : tie.Need-enum-told-2
-enum-told-2 c = search needs
 
 returns : tie.Need-returns
 unfolding remainderAt
@@ -42,4 +30,4 @@ returns-3 c = ap (remainderAt (c .before .before .args .to)) (sym (c .enum-told2
 pub remainder-line-spec : {M : Type 1} → statement M
 remainder-line-spec =
     tie.close
-    (tie.spec enum-known-place sub-t5 cast-t6 enum-told enum-told-2 returns returns-2 returns-3)
+    (tie.spec (λ c. search needs) sub-t5 (λ c. search needs) (λ c. search needs) (λ c. search needs) returns returns-2 returns-3)

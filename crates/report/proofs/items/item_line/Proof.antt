@@ -9,21 +9,6 @@ use Rattle.report.specs.Contracts.{MostBits, Lying}
 use Rattle.report.proofs.items.item_line.Statement.{statement}
 use Rattle.report.proofs.items.item_line.Tie as tie
 
-enum-told : tie.Need-enum-told
-enum-told c = search needs
-
-enum-told-2 : tie.Need-enum-told-2
-enum-told-2 c = search needs
-
-enum-told-3 : tie.Need-enum-told-3
-enum-told-3 c = search needs
-
-enum-told-4 : tie.Need-enum-told-4
-enum-told-4 c = search needs
-
-enum-known-spot : tie.Need-enum-known-spot
-enum-known-spot c = search needs
-
 lying : (c : tie.After-known-told) → Lying MostBits (Lies (c .before .spot .given .0 .0) (c .before .spot .given .0 .1 .0))
 lying c = subst (Lying MostBits) (c .before .spot .given .1) (c .before .before .before .before .before .pre .1)
 
@@ -66,11 +51,11 @@ pub item-line-spec : {M : Type 1} → statement M
 item-line-spec =
     tie.close
     (tie.spec
-    enum-told
-    enum-told-2
-    enum-told-3
-    enum-told-4
-    enum-known-spot
+    (λ c. search needs)
+    (λ c. search needs)
+    (λ c. search needs)
+    (λ c. search needs)
+    (λ c. search needs)
     slot-line-requires
     returns
     returns-2

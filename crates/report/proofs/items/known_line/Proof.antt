@@ -19,9 +19,6 @@ returns-2 c =
     let a = c .before .before .before .args in
     sym (form-wide (a .form) (a .width) (a .slot) _ (omega (arith, c .before .if1 .left)) (c .if2 .taken))
 
-cut-bits-requires : tie.Need-cut-bits-requires
-cut-bits-requires c κs = search needs
-
 form-line-requires : tie.Need-form-line-requires
 form-line-requires c κs =
     let start = c .before .before .before .before in
@@ -36,4 +33,4 @@ returns-3 c =
 
 pub known-line-spec : {M : Type 1} → statement M
 known-line-spec =
-    tie.close (tie.spec returns returns-2 cut-bits-requires form-line-requires returns-3)
+    tie.close (tie.spec returns returns-2 (λ c κs. search needs) form-line-requires returns-3)

@@ -10,15 +10,6 @@ use Rattle.report.specs.Items.{slotLine}
 use Rattle.report.proofs.items.slot_line.Statement.{statement}
 use Rattle.report.proofs.items.slot_line.Tie as tie
 
-find-slot-requires : tie.Need-find-slot-requires
-find-slot-requires c κs = search needs
-
-enum-told : tie.Need-enum-told
-enum-told c = search needs
-
-enum-known-found : tie.Need-enum-known-found
-enum-known-found c = search needs
-
 told :
     (c : tie.After-known-told)
     → let a = c .before .before .before .before .before .before .args in
@@ -48,4 +39,4 @@ returns-2 c =
 pub slot-line-spec : {M : Type 1} → statement M
 slot-line-spec =
     tie.close
-    (tie.spec find-slot-requires enum-told enum-known-found known-line-requires returns returns-2)
+    (tie.spec (λ c κs. search needs) (λ c. search needs) (λ c. search needs) known-line-requires returns returns-2)

@@ -21,9 +21,6 @@ use borrow.Author.Needs.{needs}
 use Rattle.report.proofs.j1850.report.Statement.{statement}
 use Rattle.report.proofs.j1850.report.Tie as tie
 
-check-supplement-requires : tie.Need-check-supplement-requires
-check-supplement-requires c κs = search needs
-
 returns : tie.Need-returns
 returns c =
     let checked = c .before .before .check-supplement in
@@ -34,17 +31,8 @@ returns c =
     ∙ sym (supplement-refused (a .supplement .now) (readFrame (a .first .now) (a .response .now)) (length out)
     (λ e. c .if1 .taken (ap (λ x. x .refusal) (checked .ensures) ∙ e))))
 
-read-frame-requires : tie.Need-read-frame-requires
-read-frame-requires c κs = search needs
-
 accepted-there : (c : tie.Else1) → Accepted (c .before .before .before .before .before .before .before .args .supplement .now)
 accepted-there c = ap (λ x. x .refusal) (sym (c .before .before .check-supplement .ensures)) ∙ c .if1 .left
-
-enum-known-reading : tie.Need-enum-known-reading
-enum-known-reading c = search needs
-
-enum-known-reading-2 : tie.Need-enum-known-reading-2
-enum-known-reading-2 c = search needs
 
 -- what the reader handed over of a frame that it accepted
 module _ (c : tie.After-known-told2) where
@@ -95,12 +83,6 @@ add-end c = omega (arith, within c)
 slice-aggregate-parts-report : tie.Need-slice-aggregate-parts-report
 slice-aggregate-parts-report c = sym (length-take-le (given (c .before) .header) (first (c .before)) (omega (arith, within (c .before))))
 
-sub-parts-report : tie.Need-sub-parts-report
-sub-parts-report c = search needs
-
-part-parts-report-start : tie.Need-part-parts-report-start
-part-parts-report-start c = search needs
-
 part-parts-report-end : tie.Need-part-parts-report-end
 part-parts-report-end c = omega (arith, within (c .before))
 
@@ -118,9 +100,6 @@ returns-2 c =
     settled (refused (reading .0 .0) 0) _ (a .out .now)
     (sym (reading-refused (a .supplement .now) o (length (a .out .now)) (accepted-there (c .before .before .before .before)) (reading .0 .0) refusal))
 
-same-length : tie.Need-same-length
-same-length c = search needs
-
 returns-3 : tie.Need-returns-3
 returns-3 c =
     let at = c .before .before .before .before .before .before in
@@ -131,17 +110,17 @@ pub report-spec : {M : Type 1} → statement M
 report-spec =
     tie.close
     (tie.spec
-    check-supplement-requires
+    (λ c κs. search needs)
     returns
-    read-frame-requires
-    enum-known-reading
-    enum-known-reading-2
+    (λ c κs. search needs)
+    (λ c. search needs)
+    (λ c. search needs)
     add-end
     slice-aggregate-parts-report
-    sub-parts-report
-    part-parts-report-start
+    (λ c. search needs)
+    (λ c. search needs)
     part-parts-report-end
     parts-report-requires
     returns-2
-    same-length
+    (λ c. search needs)
     returns-3)

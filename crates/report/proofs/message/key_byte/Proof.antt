@@ -7,12 +7,6 @@ use borrow.Author.Needs.{needs}
 use Rattle.report.proofs.message.key_byte.Statement.{statement}
 use Rattle.report.proofs.message.key_byte.Tie as tie
 
-byte-at-requires : tie.Need-byte-at-requires
-byte-at-requires c κs = search needs
-
-header-size-requires : tie.Need-header-size-requires
-header-size-requires c κs = search needs
-
 returns : tie.Need-returns
 returns c =
     and-mask (c .before .before .byte-at .result) 5
@@ -25,4 +19,4 @@ returns-2 c =
     ∙ sym (key-of-one (c .before .before .before .before .args .header .now) (λ e. c .if1 .left (c .before .header-size .ensures ∙ e)) .0)
 
 pub key-byte-spec : {M : Type 1} → statement M
-key-byte-spec = tie.close (tie.spec byte-at-requires header-size-requires returns returns-2)
+key-byte-spec = tie.close (tie.spec (λ c κs. search needs) (λ c κs. search needs) returns returns-2)

@@ -5,12 +5,6 @@ use borrow.Author.Needs.{needs}
 use Rattle.report.proofs.message.key_target.Statement.{statement}
 use Rattle.report.proofs.message.key_target.Tie as tie
 
-header-size-requires : tie.Need-header-size-requires
-header-size-requires c κs = search needs
-
-byte-at-requires : tie.Need-byte-at-requires
-byte-at-requires c κs = search needs
-
 returns : tie.Need-returns
 returns c =
     c .byte-at .ensures
@@ -21,4 +15,4 @@ returns-2 c =
     sym (key-of-one (c .before .before .before .args .header .now) (λ e. c .if1 .left (c .before .header-size .ensures ∙ e)) .1)
 
 pub key-target-spec : {M : Type 1} → statement M
-key-target-spec = tie.close (tie.spec header-size-requires byte-at-requires returns returns-2)
+key-target-spec = tie.close (tie.spec (λ c κs. search needs) (λ c κs. search needs) returns returns-2)

@@ -20,24 +20,6 @@ use Rattle.report.proofs.message.Laws.{present-within, items-most, grou
 use Rattle.report.proofs.message.message_report.Statement.{statement}
 use Rattle.report.proofs.message.message_report.Tie as tie
 
-sought-requires : tie.Need-sought-requires
-sought-requires c κs = search needs
-
-present-in-requires : tie.Need-present-in-requires
-present-in-requires c κs = search needs
-
-cast-from : tie.Need-cast-from
-cast-from c = search needs
-
-mul-from : tie.Need-mul-from
-mul-from c = search needs
-
-mul-to : tie.Need-mul-to
-mul-to c = search needs
-
-empty-requires : tie.Need-empty-requires
-empty-requires c κs = search needs
-
 -- at most so many PRNs, and none without a layout
 abbrev Sized : LayoutFound → Type 0
 Sized l = (l .count ≤ MostPrns) × (length (l .prns) ≡ MostPrns) × (l .found ≡ false → l .count ≡ 0)
@@ -52,9 +34,6 @@ with-group-requires c κs =
       (start .pre .0, omega (arith, from, present-within body), omega (arith, start .pre .1)),
       (layout, (shows-own (c .empty .result) [] none, omega (arith, none .count, layout .0))),
     )
-
-response-line-requires : tie.Need-response-line-requires
-response-line-requires c κs = search needs
 
 -- what the supplement has of the layout
 told :
@@ -125,14 +104,14 @@ pub message-report-spec : {M : Type 1} → statement M
 message-report-spec =
     tie.close
     (tie.spec
-    sought-requires
-    present-in-requires
-    cast-from
-    mul-from
-    mul-to
-    empty-requires
+    (λ c κs. search needs)
+    (λ c κs. search needs)
+    (λ c. search needs)
+    (λ c. search needs)
+    (λ c. search needs)
+    (λ c κs. search needs)
     with-group-requires
-    response-line-requires
+    (λ c κs. search needs)
     mul-held
     array-set-from-held
     add-t13

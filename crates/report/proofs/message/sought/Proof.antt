@@ -9,24 +9,6 @@ use Rattle.catalogue.specs.Lookup.{layoutFound}
 use Rattle.report.proofs.message.sought.Statement.{statement}
 use Rattle.report.proofs.message.sought.Tie as tie
 
-key-byte-requires : tie.Need-key-byte-requires
-key-byte-requires c κs = search needs
-
-key-target-requires : tie.Need-key-target-requires
-key-target-requires c κs = search needs
-
-present-in-requires : tie.Need-present-in-requires
-present-in-requires c κs = search needs
-
-byte-at-requires : tie.Need-byte-at-requires
-byte-at-requires c κs = search needs
-
-slice-aggregate-find-layout : tie.Need-slice-aggregate-find-layout
-slice-aggregate-find-layout c = search needs
-
-find-layout-requires : tie.Need-find-layout-requires
-find-layout-requires c κs = search needs
-
 returns : tie.Need-returns
 returns c =
     let at = c .before in
@@ -41,10 +23,10 @@ pub sought-spec : {M : Type 1} → statement M
 sought-spec =
     tie.close
     (tie.spec
-    key-byte-requires
-    key-target-requires
-    present-in-requires
-    byte-at-requires
-    slice-aggregate-find-layout
-    find-layout-requires
+    (λ c κs. search needs)
+    (λ c κs. search needs)
+    (λ c κs. search needs)
+    (λ c κs. search needs)
+    (λ c. search needs)
+    (λ c κs. search needs)
     returns)

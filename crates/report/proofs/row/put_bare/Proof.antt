@@ -6,17 +6,8 @@ use borrow.Author.Needs.{needs}
 use Rattle.report.proofs.row.put_bare.Statement.{statement}
 use Rattle.report.proofs.row.put_bare.Tie as tie
 
-slice-write-out : tie.Need-slice-write-out
-slice-write-out c = search needs
-
-add-result : tie.Need-add-result
-add-result c = search needs
-
-same-length : tie.Need-same-length
-same-length c = search needs
-
 returns : tie.Need-returns
 returns c = (stored (c .args .out .now) (c .args .at) (c .args .kind) (omega arith), refl)
 
 pub put-bare-spec : {M : Type 1} → statement M
-put-bare-spec = tie.close (tie.spec slice-write-out add-result same-length returns)
+put-bare-spec = tie.close (tie.spec (λ c. search needs) (λ c. search needs) (λ c. search needs) returns)

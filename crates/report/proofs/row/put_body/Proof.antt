@@ -8,21 +8,6 @@ use borrow.Author.Needs.{needs}
 use Rattle.report.proofs.row.put_body.Statement.{statement}
 use Rattle.report.proofs.row.put_body.Tie as tie
 
-slice-write-out : tie.Need-slice-write-out
-slice-write-out c = search needs
-
-add-put-number : tie.Need-add-put-number
-add-put-number c = search needs
-
-put-number-requires : tie.Need-put-number-requires
-put-number-requires c κs = search needs
-
-add-result : tie.Need-add-result
-add-result c = search needs
-
-add-result-2 : tie.Need-add-result-2
-add-result-2 c = search needs
-
 same-length : tie.Need-same-length
 same-length c = c .before .before .put-number .kept .1 .1 .0 ∙ simp length-set
 
@@ -34,4 +19,4 @@ returns c =
 pub put-body-spec : {M : Type 1} → statement M
 put-body-spec =
     tie.close
-    (tie.spec slice-write-out add-put-number put-number-requires add-result add-result-2 same-length returns)
+    (tie.spec (λ c. search needs) (λ c. search needs) (λ c κs. search needs) (λ c. search needs) (λ c. search needs) same-length returns)

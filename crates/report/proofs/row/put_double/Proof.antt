@@ -6,14 +6,5 @@ use Rattle.report.proofs.row.put_double.Tie as tie
 float-to-bits-put-body : tie.Need-float-to-bits-put-body
 float-to-bits-put-body c = rw (c .before .pre .0) tt
 
-put-body-requires : tie.Need-put-body-requires
-put-body-requires c κs = search needs
-
-same-length : tie.Need-same-length
-same-length c = search needs
-
-returns : tie.Need-returns
-returns c = search needs
-
 pub put-double-spec : {M : Type 1} → statement M
-put-double-spec = tie.close (tie.spec float-to-bits-put-body put-body-requires same-length returns)
+put-double-spec = tie.close (tie.spec float-to-bits-put-body (λ c κs. search needs) (λ c. search needs) (λ c. search needs))

@@ -91,9 +91,6 @@ kept c =
     let loop = c .before .loop in
     length-laid (report .held) (report .count) (start .args .out .now) (within start) (fits start) (loop .out) (loop .end) (loop .i) (loop .inv)
 
-verdict-of-requires : tie.Need-verdict-of-requires Inv-loop μ-loop
-verdict-of-requires c κs = search needs
-
 put-byte-requires : tie.Need-put-byte-requires Inv-loop μ-loop
 put-byte-requires c κs =
     let end = c .before .before .before in
@@ -126,7 +123,7 @@ put-report-spec =
     add-i
     loop-less
     loop-again
-    verdict-of-requires
+    (λ c κs. search needs)
     put-byte-requires
     same-length
     returns)

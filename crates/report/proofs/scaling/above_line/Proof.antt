@@ -48,17 +48,8 @@ sum-fits c =
     let p = c .before .before .before .pre in
     omega (arith, above-small (a .slot) (a .raw) (p .0) (p .1) (p .2) (omega arith) (omega arith))
 
-raw-number-requires : tie.Need-raw-number-requires
-raw-number-requires c κs = search needs
-
-cast-result : tie.Need-cast-result
-cast-result c = search needs
-
 mul-result : tie.Need-mul-result
 mul-result c = subst (SFits w64) (sym (product c)) (record { sfits = product-fits c })
-
-signed-of-requires : tie.Need-signed-of-requires
-signed-of-requires c κs = search needs
 
 add-result : tie.Need-add-result
 add-result c = subst (SFits w64) (sym (sum c)) (record { sfits = sum-fits c })
@@ -69,4 +60,4 @@ returns c = reread (sum c) (sum-fits c)
 pub above-line-spec : {M : Type 1} → statement M
 above-line-spec =
     tie.close
-    (tie.spec raw-number-requires cast-result mul-result signed-of-requires add-result returns)
+    (tie.spec (λ c κs. search needs) (λ c. search needs) mul-result (λ c κs. search needs) add-result returns)

@@ -11,9 +11,6 @@ returns : tie.Need-returns
 unfolding digitsLine
 returns c = rw (ne-eqb (c .before .args .width % 4) 0 (c .if1 .taken))
 
-all-decimal-requires : tie.Need-all-decimal-requires
-all-decimal-requires c κs = search needs
-
 returns-2 : tie.Need-returns-2
 unfolding digitsLine
 returns-2 c =
@@ -25,4 +22,4 @@ returns-3 c =
     rw (eq-eqb (c .before .before .before .args .width % 4) 0 (c .before .before .if1 .left), sym (c .before .all-decimal .ensures) ∙ c .if2 .left)
 
 pub digits-line-spec : {M : Type 1} → statement M
-digits-line-spec = tie.close (tie.spec returns all-decimal-requires returns-2 returns-3)
+digits-line-spec = tie.close (tie.spec returns (λ c κs. search needs) returns-2 returns-3)

@@ -43,16 +43,10 @@ returns-3 c =
     let start = c .before .before .before in
     sym (by-form start BMP (c .if3 .taken) (bits-is _ _ _ (start .pre .3)))
 
-text-line-requires : tie.Need-text-line-requires
-text-line-requires c κs = search needs
-
 returns-4 : tie.Need-returns-4
 returns-4 c =
     let start = c .before .before .before .before .before in
     c .text-line .ensures ∙ sym (by-form start ASC (c .before .if4 .taken) (text-is _ _ _ (start .pre .3)))
-
-digits-line-requires : tie.Need-digits-line-requires
-digits-line-requires c κs = search needs
 
 returns-5 : tie.Need-returns-5
 returns-5 c =
@@ -68,7 +62,7 @@ form-line-spec =
     state-line-requires
     returns-2
     returns-3
-    text-line-requires
+    (λ c κs. search needs)
     returns-4
-    digits-line-requires
+    (λ c κs. search needs)
     returns-5)

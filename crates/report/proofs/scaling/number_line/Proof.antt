@@ -11,12 +11,6 @@ use borrow.Author.Needs.{needs}
 use Rattle.report.proofs.scaling.number_line.Statement.{statement}
 use Rattle.report.proofs.scaling.number_line.Tie as tie
 
-int-to-float-divisor : tie.Need-int-to-float-divisor
-int-to-float-divisor c = search needs
-
-above-line-requires : tie.Need-above-line-requires
-above-line-requires c κs = search needs
-
 int-to-float-above : tie.Need-int-to-float-above
 int-to-float-above c =
     let a = c .before .before .before .args in
@@ -33,4 +27,4 @@ returns c =
 
 pub number-line-spec : {M : Type 1} → statement M
 number-line-spec =
-    tie.close (tie.spec int-to-float-divisor above-line-requires int-to-float-above returns)
+    tie.close (tie.spec (λ c. search needs) (λ c κs. search needs) int-to-float-above returns)

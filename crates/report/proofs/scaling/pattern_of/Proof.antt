@@ -10,14 +10,8 @@ use Rattle.report.proofs.scaling.pattern_of.Tie as tie
 sized : (c : tie.Then1) → Size (c .before .args .width)
 sized c = size-of (c .before .args .width) (c .before .pre .0) (c .before .pre .1)
 
-shl-size : tie.Need-shl-size
-shl-size c = search needs
-
 sub-result : tie.Need-sub-result
 sub-result c = let s = sized (c .before) in omega arith
-
-add-result : tie.Need-add-result
-add-result c = search needs
 
 cast-result : tie.Need-cast-result
 cast-result c = let s = sized (c .before) in omega arith
@@ -39,4 +33,4 @@ returns-3 c = let a = c .before .args in sym (pattern-other (a .form) (a .width)
 
 pub pattern-of-spec : {M : Type 1} → statement M
 pattern-of-spec =
-    tie.close (tie.spec shl-size sub-result add-result cast-result returns returns-2 returns-3)
+    tie.close (tie.spec (λ c. search needs) sub-result (λ c. search needs) cast-result returns returns-2 returns-3)

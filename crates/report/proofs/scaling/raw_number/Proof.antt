@@ -7,15 +7,6 @@ use borrow.Author.Needs.{needs}
 use Rattle.report.proofs.scaling.raw_number.Statement.{statement}
 use Rattle.report.proofs.scaling.raw_number.Tie as tie
 
-pattern-of-requires : tie.Need-pattern-of-requires
-pattern-of-requires c κs = search needs
-
-signed-of-requires : tie.Need-signed-of-requires
-signed-of-requires c κs = search needs
-
-cast-result : tie.Need-cast-result
-cast-result c = search needs
-
 returns : tie.Need-returns
 returns c =
     let a = c .before .before .before .args in
@@ -28,4 +19,4 @@ returns-2 c = let a = c .before .args in reread-pos (a .raw) (omega arith) ∙ r
 
 pub raw-number-spec : {M : Type 1} → statement M
 raw-number-spec =
-    tie.close (tie.spec pattern-of-requires signed-of-requires cast-result returns returns-2)
+    tie.close (tie.spec (λ c κs. search needs) (λ c κs. search needs) (λ c. search needs) returns returns-2)

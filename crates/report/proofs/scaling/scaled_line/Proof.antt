@@ -4,12 +4,6 @@ use borrow.Author.Needs.{needs}
 use Rattle.report.proofs.scaling.scaled_line.Statement.{statement}
 use Rattle.report.proofs.scaling.scaled_line.Tie as tie
 
-within-limits-requires : tie.Need-within-limits-requires
-within-limits-requires c κs = search needs
-
-number-line-requires : tie.Need-number-line-requires
-number-line-requires c κs = search needs
-
 returns : tie.Need-returns
 returns c =
     let e = sym (c .before .before .within-limits .ensures) ∙ c .before .if1 .taken in
@@ -20,4 +14,4 @@ returns-2 c = rw (sym (c .before .within-limits .ensures) ∙ c .if1 .left)
 
 pub scaled-line-spec : {M : Type 1} → statement M
 scaled-line-spec =
-    tie.close (tie.spec within-limits-requires number-line-requires returns returns-2)
+    tie.close (tie.spec (λ c κs. search needs) (λ c κs. search needs) returns returns-2)

@@ -19,12 +19,6 @@ moved c =
 small : (c : tie.Else1) → SFits w64 (signed (c .before .args .p))
 small c = record { sfits = omega (arith, signed-mag (c .before .args .p) (omega arith)) }
 
-cast-result : tie.Need-cast-result
-cast-result c = search needs
-
-cast-result-2 : tie.Need-cast-result-2
-cast-result-2 c = search needs
-
 sub-result : tie.Need-sub-result
 sub-result c = subst (SFits w64) (sym (moved c)) (small c)
 
@@ -35,4 +29,4 @@ returns-2 : tie.Need-returns-2
 returns-2 c = reread (moved c) (small c .sfits)
 
 pub signed-of-spec : {M : Type 1} → statement M
-signed-of-spec = tie.close (tie.spec cast-result cast-result-2 sub-result returns returns-2)
+signed-of-spec = tie.close (tie.spec (λ c. search needs) (λ c. search needs) sub-result returns returns-2)

@@ -11,9 +11,6 @@ returns : tie.Need-returns
 unfolding textLine
 returns c = rw (ne-eqb (c .before .args .width % 8) 0 (c .if1 .taken))
 
-all-printable-requires : tie.Need-all-printable-requires
-all-printable-requires c κs = search needs
-
 returns-2 : tie.Need-returns-2
 unfolding textLine
 returns-2 c =
@@ -25,4 +22,4 @@ returns-3 c =
     rw (eq-eqb (c .before .before .before .args .width % 8) 0 (c .before .before .if1 .left), sym (c .before .all-printable .ensures) ∙ c .if2 .left)
 
 pub text-line-spec : {M : Type 1} → statement M
-text-line-spec = tie.close (tie.spec returns all-printable-requires returns-2 returns-3)
+text-line-spec = tie.close (tie.spec returns (λ c κs. search needs) returns-2 returns-3)

@@ -8,20 +8,11 @@ use borrow.Author.Needs.{needs}
 use Rattle.report.proofs.scaling.within_limits.Statement.{statement}
 use Rattle.report.proofs.scaling.within_limits.Tie as tie
 
-pattern-of-requires : tie.Need-pattern-of-requires
-pattern-of-requires c κs = search needs
-
-in-order-requires : tie.Need-in-order-requires
-in-order-requires c κs = search needs
-
 returns : tie.Need-returns
 returns c =
     let a = c .before .before .before .args in
     let e = ap (inOrder (a .slot .form) (a .slot .lowest)) (sym (c .before .before .pattern-of .ensures)) ∙ sym (c .before .in-order .ensures) in
     sym (below-lowest (a .slot) (a .raw) (e ∙ not-true _ (c .if1 .taken)))
-
-in-order-requires-2 : tie.Need-in-order-requires-2
-in-order-requires-2 c κs = search needs
 
 returns-2 : tie.Need-returns-2
 returns-2 c =
@@ -37,4 +28,4 @@ returns-2 c =
 pub within-limits-spec : {M : Type 1} → statement M
 within-limits-spec =
     tie.close
-    (tie.spec pattern-of-requires in-order-requires returns in-order-requires-2 returns-2)
+    (tie.spec (λ c κs. search needs) (λ c κs. search needs) returns (λ c κs. search needs) returns-2)

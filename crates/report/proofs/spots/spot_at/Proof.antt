@@ -6,12 +6,6 @@ use Rattle.report.proofs.spots.Laws.{spot-over, spot-lies}
 use Rattle.report.proofs.spots.spot_at.Statement.{statement}
 use Rattle.report.proofs.spots.spot_at.Tie as tie
 
-cast-if1 : tie.Need-cast-if1
-cast-if1 c = search needs
-
-add-if1 : tie.Need-add-if1
-add-if1 c = search needs
-
 returns : tie.Need-returns
 returns c =
     let a = c .before .before .args in
@@ -23,4 +17,4 @@ returns-2 c =
     sym (spot-lies (a .row) (a .to) (a .at) (omega (arith, c .if1 .left)))
 
 pub spot-at-spec : {M : Type 1} → statement M
-spot-at-spec = tie.close (tie.spec cast-if1 add-if1 returns returns-2)
+spot-at-spec = tie.close (tie.spec (λ c. search needs) (λ c. search needs) returns returns-2)

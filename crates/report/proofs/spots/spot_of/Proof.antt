@@ -11,24 +11,6 @@ use Rattle.report.specs.Contracts.{Inside}
 use Rattle.report.proofs.spots.spot_of.Statement.{statement}
 use Rattle.report.proofs.spots.spot_of.Tie as tie
 
-enum-told : tie.Need-enum-told
-enum-told c = search needs
-
-enum-told-2 : tie.Need-enum-told-2
-enum-told-2 c = search needs
-
-enum-known-place : tie.Need-enum-known-place
-enum-known-place c = search needs
-
-find-prn-requires : tie.Need-find-prn-requires
-find-prn-requires c κs = search needs
-
-enum-told-3 : tie.Need-enum-told-3
-enum-told-3 c = search needs
-
-enum-known-found : tie.Need-enum-known-found
-enum-known-found c = search needs
-
 told :
     (c : tie.After-known-told2)
     → let a = c .before .before .before .before .before .before .before .before .args in
@@ -78,12 +60,12 @@ pub spot-of-spec : {M : Type 1} → statement M
 spot-of-spec =
     tie.close
     (tie.spec
-    enum-told
-    enum-told-2
-    enum-known-place
-    find-prn-requires
-    enum-told-3
-    enum-known-found
+    (λ c. search needs)
+    (λ c. search needs)
+    (λ c. search needs)
+    (λ c κs. search needs)
+    (λ c. search needs)
+    (λ c. search needs)
     spot-at-requires
     returns
     returns-2

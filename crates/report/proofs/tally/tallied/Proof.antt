@@ -11,15 +11,6 @@ use Rattle.report.proofs.row.Laws.{row-most}
 use Rattle.report.proofs.tally.tallied.Statement.{statement}
 use Rattle.report.proofs.tally.tallied.Tie as tie
 
-weight-of-requires : tie.Need-weight-of-requires
-weight-of-requires c κs = search needs
-
-either-requires : tie.Need-either-requires
-either-requires c κs = search needs
-
-either-requires-2 : tie.Need-either-requires-2
-either-requires-2 c κs = search needs
-
 add-t6 : tie.Need-add-t6
 add-t6 c =
     let start = c .before .before .before .before .before in
@@ -42,4 +33,4 @@ returns c =
 
 pub tallied-spec : {M : Type 1} → statement M
 tallied-spec =
-    tie.close (tie.spec weight-of-requires either-requires either-requires-2 add-t6 returns)
+    tie.close (tie.spec (λ c κs. search needs) (λ c κs. search needs) (λ c κs. search needs) add-t6 returns)

@@ -9,32 +9,17 @@ use Rattle.report.proofs.tally.weight_of.Tie as tie
 enum-told : tie.Need-enum-told
 enum-told c = search needs
 
-plain-requires : tie.Need-plain-requires
-plain-requires c κs = search needs
-
 enum-told-2 : tie.Need-enum-told-2
 enum-told-2 c = search needs
-
-plain-requires-2 : tie.Need-plain-requires-2
-plain-requires-2 c κs = search needs
 
 enum-told-3 : tie.Need-enum-told-3
 enum-told-3 c = search needs
 
-plain-requires-3 : tie.Need-plain-requires-3
-plain-requires-3 c κs = search needs
-
 enum-told-4 : tie.Need-enum-told-4
 enum-told-4 c = search needs
 
-plain-requires-4 : tie.Need-plain-requires-4
-plain-requires-4 c κs = search needs
-
 enum-told-5 : tie.Need-enum-told-5
 enum-told-5 c = search needs
-
-plain-requires-5 : tie.Need-plain-requires-5
-plain-requires-5 c κs = search needs
 
 enum-told-6 : tie.Need-enum-told-6
 enum-told-6 c = search needs
@@ -50,9 +35,6 @@ enum-known-line c = search needs
 
 enum-told-9 : tie.Need-enum-told-9
 enum-told-9 c = search needs
-
-plain-requires-6 : tie.Need-plain-requires-6
-plain-requires-6 c κs = search needs
 
 returns : tie.Need-returns
 unfolding row bigEndian
@@ -99,21 +81,21 @@ weight-of-spec =
     tie.close
     (tie.spec
     enum-told
-    plain-requires
+    (λ c κs. search needs)
     enum-told-2
-    plain-requires-2
+    (λ c κs. search needs)
     enum-told-3
-    plain-requires-3
+    (λ c κs. search needs)
     enum-told-4
-    plain-requires-4
+    (λ c κs. search needs)
     enum-told-5
-    plain-requires-5
+    (λ c κs. search needs)
     enum-told-6
     enum-told-7
     enum-told-8
     enum-known-line
     enum-told-9
-    plain-requires-6
+    (λ c κs. search needs)
     returns
     returns-2
     returns-3
