@@ -66,16 +66,23 @@ fn read_case(line: &[u8; LINE]) {
     ));
 }
 
+// The frame into so many bytes of a buffer.
+fn write_into(header: &[u8], body: &[u8], response: &[u8], out: &mut [u8], room: usize) -> u64 {
+    let lent = hex::fewer(room, out.len());
+    c_api::rakhubole_j1850_write(header, body, response, &mut out[..lent])
+}
+
 fn write_case(line: &[u8; LINE]) {
     let header = run_at(line, FIRST);
     let body = run_at(line, SECOND);
     let response = run_at(line, THIRD);
     let mut out = [FILLING; BUFFER];
-    show_word(c_api::rakhubole_j1850_write(
+    show_word(write_into(
         hex::counted(&header, length_at(line, FIRST)),
         hex::counted(&body, length_at(line, SECOND)),
         hex::counted(&response, length_at(line, THIRD)),
-        hex::lent(&mut out, length_at(line, ROOM)),
+        &mut out,
+        length_at(line, ROOM),
     ));
     io::write_all(STDOUT_FILENO, b" ");
     show_buffer(&out);

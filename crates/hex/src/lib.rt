@@ -1,6 +1,6 @@
 // Hexadecimal text to bytes and back, and the first bytes of a buffer, for the programs that run vector files.
 ghost use mathlib.Core.Path.{_≡_};
-ghost use Prim.Native.Nat.{_/_, _<_};
+ghost use Prim.Native.Nat.{_/_, _<_, min};
 ghost use lib.ListN.{getD, length, take};
 ghost use Rattle.hex.specs.Digits.{digitValue, byteFrom, bytesFrom};
 ghost use Rattle.hex.specs.Digits.{ByteDigits, lastDigit, textOf, textLength, textOver};
@@ -106,9 +106,9 @@ pub fn counted(bytes: &[u8], n: usize) -> &[u8]
     if n < bytes.len() { &bytes[..n] } else { bytes }
 }
 
-// The same of a buffer that is written to.
-pub fn lent(out: &mut [u8], n: usize) -> &mut [u8]
-    ensures { λ r. ⌜ now r ≡ take n (now (out .entry)) ⌝ }
+// The fewer of two counts: how much of a buffer there is of so many bytes.
+pub fn fewer(n: usize, most: usize) -> usize
+    ensures { λ r. ⌜ r ≡ min n most ⌝ }
 {
-    if n < out.len() { &mut out[..n] } else { out }
+    if n < most { n } else { most }
 }

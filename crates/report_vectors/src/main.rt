@@ -58,13 +58,19 @@ fn read_number() -> Number
     }
 }
 
+// So many characters, as far as there is room.
+fn read_text(text: &mut [u8], size: usize) -> usize {
+    let part = hex::fewer(size, text.len());
+    io::read_full(STDIN_FILENO, &mut text[..part])
+}
+
 // A run into a buffer that has room for it, and its length.
 fn read_run(run: &mut [u8]) -> Number {
     let number = read_number();
     let n = number.value;
     let size = n * BYTE_DIGITS + 1;
     let mut text = io::large_buffer();
-    let got = io::read_full(STDIN_FILENO, hex::lent(&mut text, size));
+    let got = read_text(&mut text, size);
     hex::fill(&text, run);
     Number {
         there: got == size && n <= run.len(),
@@ -78,16 +84,23 @@ fn show_bytes(bytes: &[u8]) {
     io::write_all(STDOUT_FILENO, hex::counted(&text, n));
 }
 
+// The report into so many bytes of a buffer.
+fn report_into(
+    supplement: &[u8],
+    first: &[u8],
+    response: &[u8],
+    out: &mut [u8],
+    room: usize,
+) -> u64 {
+    let lent = hex::fewer(room, out.len());
+    c_api::rakhubole_j1850_report(supplement, first, response, &mut out[..lent])
+}
+
 fn run_case(supplement: &[u8], first: &[u8], response: &[u8], room: usize)
     requires { ⌜ room < NumberEnd ⌝ }
 {
     let mut out = [FILLING; BUFFER];
-    let answer = c_api::rakhubole_j1850_report(
-        supplement,
-        first,
-        response,
-        hex::lent(&mut out, room),
-    );
+    let answer = report_into(supplement, first, response, &mut out, room);
     io::print_hex(STDOUT_FILENO, answer, WORD_DIGITS);
     io::write_all(STDOUT_FILENO, b" ");
     show_bytes(hex::counted(&out, room + BEHIND));

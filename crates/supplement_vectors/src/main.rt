@@ -33,6 +33,12 @@ fn zeros() -> [u8; MOST]
     [0; MOST]
 }
 
+// So many characters, as far as there is room.
+fn read_text(text: &mut [u8], size: usize) -> usize {
+    let part = hex::fewer(size, text.len());
+    io::read_full(STDIN_FILENO, &mut text[..part])
+}
+
 // Reads a line, runs its case and answers whether there may be another.
 fn next_case() -> bool {
     let mut head = [0u8; HEAD];
@@ -42,7 +48,7 @@ fn next_case() -> bool {
     let n = length_of(&head);
     let size = n * BYTE_DIGITS + 1;
     let mut text = io::large_buffer();
-    if MOST < n || io::read_full(STDIN_FILENO, hex::lent(&mut text, size)) < size {
+    if MOST < n || read_text(&mut text, size) < size {
         return false;
     }
     let mut bytes = zeros();
