@@ -18,10 +18,12 @@ pub(crate) fn put_report(report: Report, out: &mut [u8])
     requires { ⌜ Shows report (linesIn report) × allHold (linesIn report) × (length (rowsOf (linesIn report)) + ByteRow ≤ length (now out)) ⌝ }
     ensures { λ r. ⌜ now (out .exit) ≡ placed (now (out .entry)) 0 (rowsOf (linesIn report) ++ verdictRow (verdictOf (linesIn report))) ⌝ }
 {
+    let held = report.held;
+    let count = report.count;
     let mut end: usize = 0;
     let mut i: usize = 0;
-    while i < report.count {
-        let h = report.held[i];
+    while i < count {
+        let h = held[i];
         let line = h.line;
         end = put_row(line, out, end);
         i += 1;
