@@ -1,5 +1,6 @@
-/* rakhubole.h: frames of SAE J1850 with consolidated headers, the supplement
- * of records that makers add to the SAE tables, and reports of frames.
+/* rakhubole.h: frames of SAE J1850 with consolidated headers, messages of
+ * ISO 9141-2, the supplement of records that makers add to the SAE tables, and
+ * reports of frames and messages.
  *
  * Every call takes byte runs and numbers, answers one uint64_t, and keeps
  * nothing between calls. It answers for all input and asks no check of its
@@ -25,21 +26,23 @@ extern "C" {
 
 /* The version of this interface: its calls, answers, refusals and rows. The
  * first number changes where a caller has to change. */
-#define RAKHUBOLE_VERSION "1.0"
+#define RAKHUBOLE_VERSION "1.1"
 
 /* The refusal in an answer, 0 for none. */
 #define RAKHUBOLE_REFUSAL(answer) ((unsigned)((answer) & 0xFF))
 
-/* The refusals. The reader tests 1 to 6 in that order, the writer 7, 4, 5, 1,
- * 8; the first that applies is given. A supplement is refused with 10 or, at
- * its first record with a fault, with the lowest of 11 to 15 that applies. A
- * report tests the supplement, then the frame, then 8. */
+/* The refusals; the first that applies is given. On J1850 the reader tests 1 to
+ * 6 in that order, the writer 7, 4, 5, 1, 8. On ISO 9141-2 the reader tests 1,
+ * 2, 3, 9, the writer 7, 9, 1, 8. A supplement is refused with 10 or, at its
+ * first record with a fault, with the lowest of 11 to 15 that applies. A report
+ * tests the supplement, then the frame or message, then 8. */
 enum {
     /* more than 12 bytes in all, both runs and their check bytes counted */
     RAKHUBOLE_OVER_TWELVE_BYTES = 1,
-    /* the first run is empty, or shorter than its header and check byte */
+    /* the first run is empty, or shorter than its header and check byte; on
+     * ISO 9141-2 below four bytes */
     RAKHUBOLE_FIRST_RUN_SHORT = 2,
-    /* the check byte of the first run is wrong */
+    /* the check byte of the first run, or of the message, is wrong */
     RAKHUBOLE_CHECK_BYTE_WRONG = 3,
     /* bit K is 0 and the message type has no response kind (5, 6 or 7) */
     RAKHUBOLE_TYPE_UNASSIGNED = 4,
@@ -47,10 +50,13 @@ enum {
     RAKHUBOLE_RESPONSE_COUNT_WRONG = 5,
     /* the check byte of a kind 3 response is wrong */
     RAKHUBOLE_RESPONSE_CHECK_BYTE_WRONG = 6,
-    /* writer: the header is not 1 or 3 bytes, or not as long as bit H says */
+    /* writer: the header is not 1 or 3 bytes, or not as long as bit H says; on
+     * ISO 9141-2 not 3 bytes */
     RAKHUBOLE_HEADER_LENGTH_WRONG = 7,
     /* `out` is shorter than the result */
     RAKHUBOLE_OUT_TOO_SHORT = 8,
+    /* ISO 9141-2: the first byte has H = 1 or K = 0 */
+    RAKHUBOLE_FIRST_BYTE_WRONG = 9,
     /* the supplement has more than 16,384 bytes */
     RAKHUBOLE_SUPPLEMENT_TOO_LONG = 10,
     /* a record's kind byte is not 1, 2 or 3 */
@@ -98,6 +104,24 @@ uint64_t rakhubole_j1850_write(const uint8_t *header, size_t header_length,
 #define RAKHUBOLE_WRITE_FIRST(answer) ((size_t)((answer) >> 8 & 0xFF))
 #define RAKHUBOLE_WRITE_RESPONSE(answer) ((size_t)((answer) >> 16 & 0xFF))
 
+/* Reads a message of ISO 9141-2: three header bytes, data, and a check byte,
+ * the sum of the bytes before it modulo 256; there is no response.
+ *
+ * Accepted: as rakhubole_j1850_read, with a header of 3, and response kind and
+ * length 0. The header stands at the start of `run`, the data behind it.
+ */
+uint64_t rakhubole_iso9141_read(const uint8_t *run, size_t run_length);
+
+/* Writes a message of ISO 9141-2 from header and data, without check byte, at
+ * the start of `out`. Twelve bytes are always enough.
+ *
+ * Accepted: byte 1 of the answer is the length of the message with its check
+ * byte (RAKHUBOLE_WRITE_FIRST). No byte of `out` beyond it is touched.
+ */
+uint64_t rakhubole_iso9141_write(const uint8_t *header, size_t header_length,
+                                 const uint8_t *data, size_t data_length,
+                                 uint8_t *out, size_t out_length);
+
 /* Tests a supplement: records one after the other, each a kind byte and a body
  * whose length the kind fixes, numbers with the most significant byte first.
  *
@@ -131,6 +155,14 @@ uint64_t rakhubole_j1850_report(const uint8_t *supplement, size_t supplement_len
 
 #define RAKHUBOLE_ROWS_LENGTH(answer) ((size_t)((answer) >> 8 & 0xFFFFFF))
 #define RAKHUBOLE_ROWS_MOST 150
+
+/* Reports a message of ISO 9141-2 under the SAE tables and a supplement: rows
+ * and answer as rakhubole_j1850_report gives them, the response Answered with 0.
+ * Layouts are shared: a message that begins 68h 6Ah uses those of 08h, 6Ah.
+ */
+uint64_t rakhubole_iso9141_report(const uint8_t *supplement, size_t supplement_length,
+                                  const uint8_t *run, size_t run_length,
+                                  uint8_t *out, size_t out_length);
 
 /* A row is its kind and a body, numbers with the most significant byte first.
  * Codes and raw numbers are the item's own bits, zeros before them. */

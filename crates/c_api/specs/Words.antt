@@ -1,8 +1,7 @@
 -- The number that each exported call answers: the refusal in its low byte, 0 for none, and what was accepted above it.
 use Prim.Native.Nat.{ℕ, _+_, _*_, _^_}
 use Rattle.frame.specs.Refusal.{Outcome, refused, accepted}
-use Rattle.frame.specs.Reader.{Sizes}
-use Rattle.frame.specs.Writer.{Runs}
+use Rattle.frame.specs.Frame.{Sizes, Runs}
 use Rattle.catalogue.specs.declared.supplement.Checked.{Checked}
 use Rattle.report.specs.Answer.{Answer}
 use Rattle.report.specs.Answer as answer
@@ -25,7 +24,7 @@ abbrev pub readWord : Outcome Sizes → ℕ
 readWord (refused n) = n
 readWord (accepted s) = s .header * Byte1 + s .body * Byte2 + s .kind * Byte3 + s .response * Byte4
 
--- Byte 1 the length of the first run, byte 2 that of the response.
+-- Byte 1 the length of the first run, byte 2 that of the response, 0 where a bus has none.
 abbrev pub writeWord : Outcome Runs → ℕ
 writeWord (refused n) = n
 writeWord (accepted r) = r .first * Byte1 + r .response * Byte2

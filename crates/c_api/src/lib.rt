@@ -1,18 +1,22 @@
 // The exported calls: numbers and byte slices in, one number out. include/rakhubole.h says them in words.
 use catalogue::supplement::check_supplement;
-use frame::reader::Reading;
+use frame::frame::Reading;
+use frame::frame::Writing;
+use frame::iso::read_iso;
+use frame::iso::write_iso;
 use frame::reader::read_frame;
-use frame::writer::Writing;
 use frame::writer::write_frame;
 use report::answer::Reported;
-use report::j1850::report;
 ghost use mathlib.Core.Path.{_≡_};
 ghost use lib.ListN.{length};
-ghost use Rattle.frame.specs.Reader.{readFrame, sizes};
-ghost use Rattle.frame.specs.Writer.{writeFrame, runs, outWritten};
+ghost use Rattle.frame.specs.Frame.{sizes, readingOf, runs, writingOf, outWritten};
+ghost use Rattle.frame.specs.Reader.{readFrame};
+ghost use Rattle.frame.specs.Writer.{writeFrame};
+ghost use Rattle.frame.specs.Iso.{readIso, writeIso};
 ghost use Rattle.catalogue.specs.Supplement.{check};
-ghost use Rattle.report.specs.Answer.{j1850Answer, sized, outAfter};
+ghost use Rattle.report.specs.Answer.{j1850Answer, isoAnswer, sized, outAfter, reportedOf};
 ghost use Rattle.c_api.specs.Words.{readWord, writeWord, checkWord, reportWord};
+ghost use Rattle.c_api.specs.Contracts.{SmallSizes, SmallRuns, SmallAnswer};
 
 // What one counts for in bytes 1 to 4 of an answer; byte 0 is the refusal.
 const BYTE_1: u64 = 0x100;
@@ -23,29 +27,55 @@ const BYTE_3: u64 = 0x100_0000;
 
 const BYTE_4: u64 = 0x1_0000_0000;
 
-// Reads a frame given as its two runs.
-#[no_mangle]
-pub extern "C" fn rakhubole_j1850_read(first: &[u8], response: &[u8]) -> u64
-    ensures { λ r. ⌜ r ≡ readWord (sizes (readFrame (now (first .entry)) (now (response .entry)))) ⌝ }
+fn read_word(reading: Reading) -> u64
+    requires { ⌜ SmallSizes (readingOf reading) ⌝ }
+    ensures { λ r. ⌜ r ≡ readWord (readingOf reading) ⌝ }
 {
-    let reading = read_frame(first, response);
     match reading {
         Reading::Refused(n) => n as u64,
         Reading::Accepted {
             header,
             body,
             kind,
-            response: size,
+            response,
         } => {
             header as u64 * BYTE_1
                 + body as u64 * BYTE_2
                 + kind as u64 * BYTE_3
-                + size as u64 * BYTE_4
+                + response as u64 * BYTE_4
         }
     }
 }
 
-// Writes a frame from its parts: the first run and then the response at the start of `out`.
+fn write_word(writing: Writing) -> u64
+    requires { ⌜ SmallRuns (writingOf writing) ⌝ }
+    ensures { λ r. ⌜ r ≡ writeWord (writingOf writing) ⌝ }
+{
+    match writing {
+        Writing::Refused(n) => n as u64,
+        Writing::Written { first, response } => first as u64 * BYTE_1 + response as u64 * BYTE_2,
+    }
+}
+
+fn report_word(reported: Reported) -> u64
+    requires { ⌜ SmallAnswer (reportedOf reported) ⌝ }
+    ensures { λ r. ⌜ r ≡ reportWord (reportedOf reported) ⌝ }
+{
+    match reported {
+        Reported::Refused(n, place) => n as u64 + place as u64 * BYTE_1,
+        Reported::Shown(size) => size as u64 * BYTE_1,
+    }
+}
+
+// Reads a frame of J1850, given as its two runs.
+#[no_mangle]
+pub extern "C" fn rakhubole_j1850_read(first: &[u8], response: &[u8]) -> u64
+    ensures { λ r. ⌜ r ≡ readWord (sizes (readFrame (now (first .entry)) (now (response .entry)))) ⌝ }
+{
+    read_word(read_frame(first, response))
+}
+
+// Writes a frame of J1850 from its parts: the first run and then the response at the start of `out`.
 #[no_mangle]
 pub extern "C" fn rakhubole_j1850_write(
     header: &[u8],
@@ -56,11 +86,24 @@ pub extern "C" fn rakhubole_j1850_write(
     ensures told { λ r. ⌜ r ≡ writeWord (runs (writeFrame (now (header .entry)) (now (body .entry)) (now (response .entry)) (length (now (out .entry))))) ⌝ }
     ensures left { λ r. ⌜ now (out .exit) ≡ outWritten (writeFrame (now (header .entry)) (now (body .entry)) (now (response .entry)) (length (now (out .entry)))) (now (out .entry)) ⌝ }
 {
-    let writing = write_frame(header, body, response, out);
-    match writing {
-        Writing::Refused(n) => n as u64,
-        Writing::Written { first, response } => first as u64 * BYTE_1 + response as u64 * BYTE_2,
-    }
+    write_word(write_frame(header, body, response, out))
+}
+
+// Reads a message of ISO 9141-2, given as its run.
+#[no_mangle]
+pub extern "C" fn rakhubole_iso9141_read(run: &[u8]) -> u64
+    ensures { λ r. ⌜ r ≡ readWord (sizes (readIso (now (run .entry)))) ⌝ }
+{
+    read_word(read_iso(run))
+}
+
+// Writes a message of ISO 9141-2 from its parts, at the start of `out`.
+#[no_mangle]
+pub extern "C" fn rakhubole_iso9141_write(header: &[u8], body: &[u8], out: &mut [u8]) -> u64
+    ensures told { λ r. ⌜ r ≡ writeWord (runs (writeIso (now (header .entry)) (now (body .entry)) (length (now (out .entry))))) ⌝ }
+    ensures left { λ r. ⌜ now (out .exit) ≡ outWritten (writeIso (now (header .entry)) (now (body .entry)) (length (now (out .entry)))) (now (out .entry)) ⌝ }
+{
+    write_word(write_iso(header, body, out))
 }
 
 // Tests a supplement.
@@ -72,7 +115,7 @@ pub extern "C" fn rakhubole_supplement_check(supplement: &[u8]) -> u64
     checked.refusal as u64 + checked.place as u64 * BYTE_1
 }
 
-// Reports a frame under a supplement: the rows at the start of `out`.
+// Reports a frame of J1850 under a supplement: the rows at the start of `out`.
 #[no_mangle]
 pub extern "C" fn rakhubole_j1850_report(
     supplement: &[u8],
@@ -83,9 +126,14 @@ pub extern "C" fn rakhubole_j1850_report(
     ensures told { λ r. ⌜ r ≡ reportWord (sized (j1850Answer (now (supplement .entry)) (now (first .entry)) (now (response .entry)) (length (now (out .entry))))) ⌝ }
     ensures left { λ r. ⌜ now (out .exit) ≡ outAfter (j1850Answer (now (supplement .entry)) (now (first .entry)) (now (response .entry)) (length (now (out .entry)))) (now (out .entry)) ⌝ }
 {
-    let reported = report(supplement, first, response, out);
-    match reported {
-        Reported::Refused(n, place) => n as u64 + place as u64 * BYTE_1,
-        Reported::Shown(size) => size as u64 * BYTE_1,
-    }
+    report_word(report::j1850::report(supplement, first, response, out))
+}
+
+// Reports a message of ISO 9141-2 under a supplement: the rows at the start of `out`.
+#[no_mangle]
+pub extern "C" fn rakhubole_iso9141_report(supplement: &[u8], run: &[u8], out: &mut [u8]) -> u64
+    ensures told { λ r. ⌜ r ≡ reportWord (sized (isoAnswer (now (supplement .entry)) (now (run .entry)) (length (now (out .entry))))) ⌝ }
+    ensures left { λ r. ⌜ now (out .exit) ≡ outAfter (isoAnswer (now (supplement .entry)) (now (run .entry)) (length (now (out .entry)))) (now (out .entry)) ⌝ }
+{
+    report_word(report::iso::report(supplement, run, out))
 }

@@ -8,14 +8,15 @@ use native.Mathlib.Omega.{arith}
 use borrow.Author.Tests.{le-ltb, lt-ltb, eq-eqb}
 use lib.Dec.{ltb}
 use lib.ListN.{length}
+use Rattle.frame.specs.CheckByte.{checkByte}
 use Rattle.frame.specs.Response.{isUnassigned, wrongCount}
 use Rattle.frame.specs.Header.{headerSize, kindAsked}
-use Rattle.frame.specs.Frame.{Frame, Parts, MostBytes}
+use Rattle.frame.specs.Frame.{Frame, frameSize, Parts, MostBytes}
 use Rattle.frame.specs.Refusal.{accepted, firstBroken, NoRefusal}
 use Rattle.frame.specs.Refusal.{TooLong, TooShort, CheckWrong, TypeUnassigned, CountWrong, ResponseCheckWrong}
 use Rattle.frame.specs.Reader.{readRules, readRefusal, partsOf, readFrame, FrameObeys}
-use Rattle.frame.specs.Writer.{frameOf, frameSize, writeRules, writeRefusal, writeFrame}
-use Rattle.frame.proofs.check_byte.Laws.{sealed-is}
+use Rattle.frame.specs.Writer.{frameOf, writeRules, writeRefusal, writeFrame}
+use Rattle.frame.proofs.seal.Laws.{sealed-is}
 use Rattle.frame.proofs.refusal.Laws.{accepted-is, broken}
 use Rattle.frame.proofs.reader.Laws.{obeys, read-accepts, read-unrefused}
 use Rattle.frame.proofs.writer.Laws.{writes}
@@ -48,7 +49,7 @@ module _ (h d a : List ℕ) (size : length h ≡ headerSize h) where
       λ i.
       record { number = TooLong; broken = ltb MostBytes (frameSize (frameOf h d a)) }
       ∷ record { number = TooShort; broken = run-long h d a size i }
-      ∷ record { number = CheckWrong; broken = not (sealed-is (h ++ d) i) }
+      ∷ record { number = CheckWrong; broken = not (sealed-is checkByte (h ++ d) i) }
       ∷ record { number = TypeUnassigned; broken = isUnassigned (run-kind h d a size i) }
       ∷ record { number = CountWrong; broken = run-counted h d a size i }
       ∷ record { number = ResponseCheckWrong; broken = run-checked h d a size i }

@@ -5,7 +5,7 @@ use mathlib.Core.Bool.{Bool, true, cond, _||_, not}
 use mathlib.Core.List.{List, [], _∷_}
 use Prim.Native.Nat.{ℕ, _+_, _-_, _≤_, _<_, _/_}
 use native.Mathlib.Omega.{arith}
-use borrow.Author.Tests.{eq-eqb, eqb-true, lt-ltb}
+use borrow.Author.Tests.{eq-eqb, eqb-true}
 use lib.Dec.{eqb, eqb→eq}
 use lib.ListN.{length, take, getD}
 use Rattle.frame.specs.declared.response.ResponseKind.{ResponseKind}
@@ -14,20 +14,21 @@ use Rattle.frame.specs.Bytes.{Bytes}
 use Rattle.frame.specs.CheckByte.{feed, register, checkByte, isSealed, AllOnes, Residue}
 use Rattle.frame.specs.Response.{kindNumber, isChecked, KindEmpty}
 use Rattle.frame.specs.Header.{bitK, messageType, typeTable, responseKind, kindAsked, headerSize, OneByteForm, ThreeByteForm}
-use Rattle.frame.specs.Frame.{limit, MostBytes}
-use Rattle.frame.specs.Writer.{frameOf, frameSize}
+use Rattle.frame.specs.Frame.{frameSize, limit, MostBytes}
+use Rattle.frame.specs.Writer.{frameOf}
 use Rattle.frame.proofs.bytes.Laws.{below, bytes-take}
-use Rattle.frame.proofs.check_byte.Laws.{register-lt, register-append, complement-feeds, feeds-complement, unsnoc}
+use Rattle.frame.proofs.check_byte.Laws.{register-lt, register-append, complement-feeds, feeds-complement}
+use Rattle.frame.proofs.seal.Laws.{unsnoc, last-decides}
 use Rattle.frame.proofs.header.Laws.{one-or-three}
 use Rattle.frame.proofs.writer.Laws.{frame-total}
 
 -- "Header, data and check byte together leave C4h in the register", and nothing else does: a run of at least one byte ends in its
 -- check byte exactly when its register ends at C4h.
 pub residue : (s : List ℕ) → Bytes s → 0 < length s → (isSealed s ≡ true) ↔ (register AllOnes s ≡ Residue)
-unfolding isSealed checkByte register
+unfolding checkByte register
 residue s b h = (
-  λ e. ends ∙ ap (feed (register AllOnes front)) (eqb-true _ _ (rw (lt-ltb _ _ h) at e)) ∙ complement-feeds (register AllOnes front) small,
-  λ e. rw (lt-ltb _ _ h) (eq-eqb _ _ (feeds-complement (register AllOnes front) last small (b (length s - 1)) (sym ends ∙ e))),
+  λ e. ends ∙ ap (feed r) (eqb-true last (checkByte front) (sym (last-decides checkByte s h) ∙ e)) ∙ complement-feeds r small,
+  λ e. last-decides checkByte s h ∙ eq-eqb last (checkByte front) (feeds-complement r last small (b (length s - 1)) (sym ends ∙ e)),
 )
   where
     front : List ℕ
@@ -36,10 +37,13 @@ residue s b h = (
     last : ℕ
     last = getD s (length s - 1) 0
 
-    small : register AllOnes front < 256
+    r : ℕ
+    r = register AllOnes front
+
+    small : r < 256
     small = register-lt front AllOnes (omega arith) (bytes-take s (length s - 1) b)
 
-    ends : register AllOnes s ≡ feed (register AllOnes front) last
+    ends : register AllOnes s ≡ feed r last
     ends = ap (register AllOnes) (unsnoc s h) ∙ register-append front (last ∷ []) AllOnes
 
 forbidden : ℕ → Bool

@@ -1,10 +1,10 @@
 -- The check byte: document 01, "The frame", third rule.
 use Prim.Native.Nat.{ℕ, zero, suc, _+_, _-_, _*_}
-use mathlib.Core.Bool.{Bool, cond, _&&_}
-use mathlib.Core.List.{List, [], _∷_, _++_}
+use mathlib.Core.Bool.{Bool, cond}
+use mathlib.Core.List.{List, [], _∷_}
 use lib.Bits.{bitXor}
-use lib.Dec.{ltb, eqb}
-use lib.ListN.{length, take, getD}
+use lib.Dec.{ltb}
+use Rattle.frame.specs.Seal.{sealedBy, isSealedBy}
 
 -- "polynomial x^8+x^4+x^3+x^2+1": its terms below x^8.
 abbrev pub Polynomial : ℕ
@@ -47,10 +47,9 @@ register r (b ∷ s) = register (feed r b) s
 unfoldable pub checkByte : List ℕ → ℕ
 checkByte s = AllOnes - register AllOnes s
 
--- A run and its check byte.
-unfoldable pub sealed : List ℕ → List ℕ
-sealed s = s ++ checkByte s ∷ []
+-- A run and this check byte.
+abbrev pub sealed : List ℕ → List ℕ
+sealed s = sealedBy checkByte s
 
--- Whether a run has a last byte and that is the check byte of those before it.
-unfoldable pub isSealed : List ℕ → Bool
-isSealed s = ltb 0 (length s) && eqb (getD s (length s - 1) 0) (checkByte (take (length s - 1) s))
+abbrev pub isSealed : List ℕ → Bool
+isSealed s = isSealedBy checkByte s

@@ -1,8 +1,10 @@
 pub mod Bytes
 pub mod Refusal
+pub mod Seal
 pub mod CheckByte
 pub mod Response
 pub mod Header
 pub mod Frame
 pub mod Reader
 pub mod Writer
+pub mod Iso

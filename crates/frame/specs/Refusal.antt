@@ -39,6 +39,10 @@ HeaderWrong = 7
 abbrev pub OutputShort : ℕ
 OutputShort = 8
 
+-- "a first byte with H = 1 or K = 0", on ISO 9141-2: document 02, K1.
+abbrev pub FirstByteWrong : ℕ
+FirstByteWrong = 9
+
 -- A refusal with its number, or what was asked for.
 pub data Outcome (A : Type 0) : Type 0 where
   refused : ℕ → Outcome A

@@ -2,7 +2,7 @@
 use crate::bytes::byte_at;
 use crate::response::ResponseKind;
 ghost use mathlib.Core.Path.{_≡_};
-ghost use Rattle.frame.specs.Header.{messageType, headerSize, responseKind, kindAsked};
+ghost use Rattle.frame.specs.Header.{bitH, bitK, messageType, headerSize, responseKind, kindAsked};
 
 // "H = 0: three header bytes (type, target, source)."
 pub const THREE_BYTE_FORM: usize = 3;
@@ -13,8 +13,23 @@ pub const ONE_BYTE_FORM: usize = 1;
 // "bit 4 H"
 const H_PLACE: u8 = 4;
 
+// "bit 3 K"
+const K_PLACE: u8 = 3;
+
 // Bits 3 to 0, KYZZ.
 const TYPE_BITS: u8 = 0x0F;
+
+pub(crate) fn bit_h(b: u8) -> u8
+    ensures { λ r. ⌜ r ≡ bitH b ⌝ }
+{
+    (b >> H_PLACE) & 1
+}
+
+pub(crate) fn bit_k(b: u8) -> u8
+    ensures { λ r. ⌜ r ≡ bitK b ⌝ }
+{
+    (b >> K_PLACE) & 1
+}
 
 pub(crate) fn message_type(b: u8) -> u8
     ensures { λ r. ⌜ r ≡ messageType b ⌝ }
@@ -26,8 +41,7 @@ pub(crate) fn message_type(b: u8) -> u8
 pub fn header_size(run: &[u8]) -> usize
     ensures { λ r. ⌜ r ≡ headerSize (now (run .entry)) ⌝ }
 {
-    let b = byte_at(run, 0);
-    if (b >> H_PLACE) & 1 == 0 {
+    if bit_h(byte_at(run, 0)) == 0 {
         THREE_BYTE_FORM
     } else {
         ONE_BYTE_FORM

@@ -1,6 +1,7 @@
-// Reading a frame: two byte runs to the sizes of its parts.
+// Reading a frame of J1850: two byte runs to the sizes of its parts.
 use crate::check_byte::is_sealed;
 use crate::frame::MOST_BYTES;
+use crate::frame::Reading;
 use crate::header::header_size;
 use crate::header::kind_asked;
 use crate::refusal::CHECK_WRONG;
@@ -16,18 +17,8 @@ use crate::response::kind_number;
 use crate::response::response_size;
 use crate::response::wrong_count;
 ghost use mathlib.Core.Path.{_≡_};
-ghost use Rattle.frame.specs.Reader.{readRefusal, readFrame, sizes, readingOf};
-
-// A refusal's number, or the length of each part without check bytes and the response kind.
-pub enum Reading {
-    Refused(u8),
-    Accepted {
-        header: usize,
-        body: usize,
-        kind: u8,
-        response: usize,
-    },
-}
+ghost use Rattle.frame.specs.Frame.{sizes, readingOf};
+ghost use Rattle.frame.specs.Reader.{readRefusal, readFrame};
 
 // The first of the refusals 1 to 6 that applies.
 fn read_refusal(first: &[u8], response: &[u8]) -> u8

@@ -25,3 +25,6 @@ pub const HEADER_WRONG: u8 = 7;
 
 // "lent output shorter than the result"
 pub const OUTPUT_SHORT: u8 = 8;
+
+// "a first byte with H = 1 or K = 0", on ISO 9141-2
+pub const FIRST_BYTE_WRONG: u8 = 9;

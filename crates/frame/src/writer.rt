@@ -1,7 +1,9 @@
-// Writing a frame: parts without check bytes to two byte runs in lent memory.
+// Writing a frame of J1850: parts without check bytes to two byte runs in lent memory.
 use crate::bytes::put;
+use crate::bytes::put_both;
 use crate::check_byte::check_byte;
 use crate::frame::MOST_BYTES;
+use crate::frame::Writing;
 use crate::header::header_size;
 use crate::header::kind_asked;
 use crate::refusal::COUNT_WRONG;
@@ -21,14 +23,8 @@ ghost use lib.ListN.{length, take, drop};
 ghost use Rattle.frame.specs.Bytes.{placed};
 ghost use Rattle.frame.specs.CheckByte.{checkByte, sealed};
 ghost use Rattle.frame.specs.Response.{sent};
-ghost use Rattle.frame.specs.Frame.{MostBytes};
-ghost use Rattle.frame.specs.Writer.{frameOf, frameSize, writeRefusal, writeFrame, outWritten, runs, writingOf};
-
-// A refusal's number, or the length of each run.
-pub enum Writing {
-    Refused(u8),
-    Written { first: usize, response: usize },
-}
+ghost use Rattle.frame.specs.Frame.{frameSize, runs, writingOf, outWritten, MostBytes};
+ghost use Rattle.frame.specs.Writer.{frameOf, writeRefusal, writeFrame};
 
 // How many bytes the parts make with their check bytes.
 fn frame_size(header: &[u8], body: &[u8], response: &[u8]) -> usize
@@ -89,10 +85,7 @@ fn put_first(header: &[u8], body: &[u8], out: &mut [u8]) -> usize
     ensures placed { λ r. ⌜ now (out .exit) ≡ placed (now (out .entry)) 0 (sealed (now (header .entry) ++ now (body .entry))) ⌝ }
     ensures size { λ r. ⌜ r ≡ length (sealed (now (header .entry) ++ now (body .entry))) ⌝ }
 {
-    let h = header.len();
-    let end = h + body.len();
-    put(header, out, 0);
-    put(body, out, h);
+    let end = put_both(header, body, out);
     seal(out, 0, end);
     end + 1
 }

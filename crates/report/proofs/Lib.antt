@@ -5,3 +5,4 @@ pub mod Judged
 pub mod Size
 pub mod DemandThree
 pub mod TwoCalls
+pub mod Buses

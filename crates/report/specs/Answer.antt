@@ -8,6 +8,7 @@ use Rattle.frame.specs.Frame.{Parts}
 use Rattle.frame.specs.Bytes.{placed}
 use Rattle.frame.specs.Refusal.{OutputShort, NoRefusal, Outcome}
 use Rattle.frame.specs.Reader.{readFrame}
+use Rattle.frame.specs.Iso.{readIso}
 use Rattle.catalogue.specs.Supplement.{check}
 use Rattle.catalogue.specs.Lookup.{catalogue}
 use Rattle.report.specs.declared.answer.Reported.{Reported}
@@ -41,6 +42,10 @@ reportAnswer s o room = cond (eqb (check s .refusal) NoRefusal) (answerOf s o ro
 -- The same for a frame of J1850, given as its two runs.
 abbrev pub j1850Answer : List ℕ → List ℕ → List ℕ → ℕ → Answer (List ℕ)
 j1850Answer s first response room = reportAnswer s (readFrame first response) room
+
+-- The same for a message of ISO 9141-2, given as its run.
+abbrev pub isoAnswer : List ℕ → List ℕ → ℕ → Answer (List ℕ)
+isoAnswer s run room = reportAnswer s (readIso run) room
 
 -- Lent output afterwards: the rows at its start and all else as it was; refused, as it was.
 abbrev pub outAfter : Answer (List ℕ) → List ℕ → List ℕ

@@ -2,11 +2,16 @@
 -- contract reaches here.
 use Prim.Native.Nat.{ℕ, _+_, _≤_}
 use mathlib.Core.Path.{_≡_}
-use mathlib.Core.Bool.{false, _||_}
+use mathlib.Core.Bool.{false, cond, _||_}
 use mathlib.Core.List.{List, [], _∷_, map}
-use lib.ListN.{length, take}
+use lib.Dec.{eqb}
+use lib.ListN.{length, take, drop}
 use lib.Ieee.{isNan}
+use Rattle.frame.specs.Frame.{Sizes, MostBytes}
+use Rattle.frame.specs.Refusal.{Outcome, refused, accepted, NoRefusal}
 use Rattle.catalogue.specs.Record.{MostPrns}
+use Rattle.catalogue.specs.Supplement.{check}
+use Rattle.catalogue.specs.Lookup.{catalogue}
 use Rattle.report.specs.declared.spots.Place.{Place}
 use Rattle.report.specs.declared.spots.Place.the-variants.{Bit, Lost, Past}
 use Rattle.report.specs.declared.spots.Spot.{Spot}
@@ -18,7 +23,24 @@ use Rattle.report.specs.declared.lines.Report.{Report}
 use Rattle.report.specs.declared.tally.Tally.{Tally}
 use Rattle.report.specs.Line.{isFlagged, isUnknown}
 use Rattle.report.specs.Verdict.{any}
-use Rattle.report.specs.Rows.{row, rowsOf}
+use Rattle.report.specs.Rows.{row, rowsOf, reportBytes}
+use Rattle.report.specs.Report.{messageFrom, reportOf}
+use Rattle.report.specs.Answer.{Answer, fitted}
+use Rattle.report.specs.Answer as answer
+
+-- The sizes that a reader hands over cut header and data out of a run of at most twelve bytes.
+abbrev pub Cuts : List ℕ → Outcome Sizes → Type 0
+Cuts run (refused n) = Unit {0}
+Cuts run (accepted z) = (z .header + z .body ≤ length run) × (length run ≤ MostBytes)
+
+-- The report of what they cut out, and the answer with it: the supplement, then the reading, then 8.
+unfoldable pub cutAnswer : List ℕ → List ℕ → Outcome Sizes → ℕ → Answer (List ℕ)
+cutAnswer s run (refused n) room = answer.refused n 0
+cutAnswer s run (accepted z) room =
+    fitted room (reportBytes (reportOf (catalogue s) (messageFrom (take (z .header) run) (take (z .body) (drop (z .header) run)) (z .kind))))
+
+unfoldable pub sizesAnswer : List ℕ → List ℕ → Outcome Sizes → ℕ → Answer (List ℕ)
+sizesAnswer s run o room = cond (eqb (check s .refusal) NoRefusal) (cutAnswer s run o room) (answer.refused (check s .refusal) (check s .place))
 
 -- A report has at most as many lines: the items, a remainder and a response.
 abbrev pub MostLines : ℕ

@@ -1,10 +1,7 @@
 // The report of a J1850 frame under a supplement.
 use crate::answer::Reported;
-use crate::answer::parts_report;
-use catalogue::supplement::check_supplement;
-use frame::reader::Reading;
+use crate::answer::reading_report;
 use frame::reader::read_frame;
-use frame::refusal::NO_REFUSAL;
 ghost use mathlib.Core.Path.{_≡_};
 ghost use lib.ListN.{length};
 ghost use Rattle.report.specs.Answer.{j1850Answer, outAfter, sized, reportedOf};
@@ -14,21 +11,5 @@ pub fn report(supplement: &[u8], first: &[u8], response: &[u8], out: &mut [u8]) 
     ensures told { λ r. ⌜ reportedOf r ≡ sized (j1850Answer (now (supplement .entry)) (now (first .entry)) (now (response .entry)) (length (now (out .entry)))) ⌝ }
     ensures left { λ r. ⌜ now (out .exit) ≡ outAfter (j1850Answer (now (supplement .entry)) (now (first .entry)) (now (response .entry)) (length (now (out .entry)))) (now (out .entry)) ⌝ }
 {
-    let checked = check_supplement(supplement);
-    if checked.refusal != NO_REFUSAL {
-        return Reported::Refused(checked.refusal, checked.place);
-    }
-    let reading = read_frame(first, response);
-    match reading {
-        Reading::Refused(n) => Reported::Refused(n, 0),
-        Reading::Accepted {
-            header,
-            body,
-            kind,
-            response: _,
-        } => {
-            let end = header + body;
-            parts_report(supplement, &first[..header], &first[header..end], kind, out)
-        }
-    }
+    reading_report(supplement, first, read_frame(first, response), out)
 }

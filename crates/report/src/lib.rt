@@ -2,6 +2,7 @@
 pub mod answer;
 mod bits;
 mod group;
+pub mod iso;
 mod items;
 pub mod j1850;
 pub mod line;

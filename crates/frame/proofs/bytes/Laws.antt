@@ -4,12 +4,12 @@ use mathlib.Core.Logic.{⊎-elim}
 use mathlib.Core.Bool.{Bool, true, false, _&&_}
 use Prim.Native.Nat.{ℕ, zero, suc, _≤_, _<_}
 use native.Mathlib.Nat.{le-of-suc-le-suc, not-suc-le-zero, eq-or-lt-of-le}
-use mathlib.Core.List.{List}
+use mathlib.Core.List.{List, [], _∷_, _++_}
 use native.Mathlib.Omega.{arith}
 use borrow.Author.Tests.{ltb-true, ltb-false}
 use lib.Dec.{T, ltb}
-use lib.ListN.{take, length-take, List·getD-eq-default}
-use lib.Seq.{getD-take}
+use lib.ListN.{length, take, length-take, List·getD-eq-default}
+use lib.Seq.{getD-take, take-at, getD-at}
 use mir.Facts.{and-yes}
 use Rattle.frame.specs.Bytes.{Bytes}
 
@@ -34,3 +34,14 @@ pub bytes-take : (s : List ℕ) (n : ℕ) → Bytes s → Bytes (take n s)
 bytes-take s n b i =
     cases (ltb i n) (λ e. rw (getD-take n s i 0 (ltb-true _ _ e)) (b i))
     (λ e. let g : n ≤ i = ltb-false _ _ e in rw (List·getD-eq-default (take n s) 0 {n = i} (simp length-take (omega arith))) (omega arith))
+
+-- The bytes of a run in two parts, and of one around a place.
+pub bytes-front : (u v : List ℕ) → Bytes (u ++ v) → Bytes u
+bytes-front u v b = subst Bytes (take-at u v (length u) refl) (bytes-take (u ++ v) (length u) b)
+
+pub byte-at : (u : List ℕ) (x : ℕ) (v : List ℕ) → Bytes (u ++ x ∷ v) → x < 256
+byte-at u x v b = subst (λ (n : ℕ). n < 256) (getD-at u x v 0 (length u) refl) (b (length u))
+
+pub bytes-behind : (u : List ℕ) (x : ℕ) (v : List ℕ) → Bytes (u ++ x ∷ v) → Bytes v
+bytes-behind [] x v b i = b (suc i)
+bytes-behind (w ∷ u) x v b i = bytes-behind u x v (λ (j : ℕ). b (suc j)) i

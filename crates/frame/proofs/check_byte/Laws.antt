@@ -1,20 +1,21 @@
 -- Laws of the register and the check byte.
 use mathlib.Core.Path.{_≡_, refl, sym, ap, _∙_}
-use mathlib.Core.Bool.{Bool, true, cond, _&&_, _||_, not, true≢false}
+use mathlib.Core.Bool.{Bool, cond, _&&_, _||_, not}
 use mathlib.Core.List.{List, [], _∷_, _++_}
-use Prim.Native.Nat.{ℕ, zero, suc, _+_, _-_, _*_, _%_, _≤_, _<_}
+use Prim.Native.Nat.{ℕ, zero, suc, _+_, _-_, _*_, _/_, _%_, _≤_, _<_}
 use native.Mathlib.Omega.{arith}
 use native.Mathlib.Numerals.{add-one}
-use borrow.Author.Tests.{eq-eqb, ne-eqb, eqb-true, lt-ltb, ltb-true}
-use lib.Bits.{bitAnd, bitXor, xor-lt, xor-add-and, or-add-and, or-lt}
+use borrow.Author.Tests.{eq-eqb, ne-eqb}
+use lib.Bits.{bitAnd, bitXor, differ, xor-step, xor-comm, xor-lt, xor-add-and, or-add-and, or-lt}
 use lib.Dec.{T, ltb, eqb, ltb→lt, eqb→eq}
-use lib.ListN.{length, take, drop, getD, length-append, drop-of-length-le}
-use lib.Seq.{drop-cons, take-at, getD-at, split-at}
-use Rattle.frame.specs.CheckByte.{step, steps, feed, register, checkByte, sealed, isSealed}
+use lib.ListN.{length, drop, getD, drop-of-length-le}
+use lib.Seq.{drop-cons}
+use Rattle.frame.specs.CheckByte.{step, steps, feed, register, checkByte}
 use Rattle.frame.specs.CheckByte.{Polynomial, AllOnes, Residue, TopBit, ByteBits}
 use mir.Facts.{and-yes}
 use Rattle.frame.specs.Bytes.{Bytes}
-use Rattle.frame.proofs.bytes.Laws.{below, cases}
+use Rattle.frame.proofs.bytes.Laws.{below, bytes-front, bytes-behind, byte-at}
+use Rattle.frame.proofs.seal.Laws.{Shows}
 
 -- One step as the code computes it: the high bit by a mask, the move by a shift.
 coded : ℕ → ℕ
@@ -83,41 +84,68 @@ unfolding feed
 feeds-complement r b hr hb e =
     omega (arith, xor-add-and r b, or-add-and r b, or-lt 8 r b hr hb, only-ones (bitXor r b) (xor-lt 8 r b hr hb) e)
 
--- A run that is not empty is all but its last byte, and its last byte.
-pub unsnoc : (s : List ℕ) → 0 < length s → s ≡ take (length s - 1) s ++ getD s (length s - 1) 0 ∷ []
-unsnoc s h =
-    split-at s (length s - 1) 0 (omega arith)
-    ∙ ap (λ (t : List ℕ). take (length s - 1) s ++ getD s (length s - 1) 0 ∷ t) (drop-of-length-le s {i = suc (length s - 1)} (omega arith))
+-- Two numbers differ from a third in the same bits only if they are the same.
+binary : (x z : ℕ) → x < 2 → z < 2 → differ x z ≡ (x + z) % 2
+binary zero z hx hz = omega arith
+binary (suc zero) zero hx hz = refl
+binary (suc zero) (suc zero) hx hz = refl
+binary (suc zero) (suc (suc z)) hx hz = absurd (omega arith)
+binary (suc (suc x)) z hx hz = absurd (omega arith)
 
--- A run with its check byte put behind it: one byte longer, and both are found again.
-pub length-sealed : (s : List ℕ) → length (sealed s) ≡ length s + 1
-unfolding sealed
-length-sealed s = length-append s (checkByte s ∷ [])
+xor-cancel : (k a b c : ℕ) → a ≤ k → b ≤ k → bitXor a c ≡ bitXor b c → a ≡ b
+xor-cancel zero a b c ha hb e = omega arith
+xor-cancel (suc k) a b c ha hb e =
+    let one = xor-step a c in
+    let other = xor-step b c in
+    let d = binary (a % 2) (c % 2) (omega arith) (omega arith) in
+    let d′ = binary (b % 2) (c % 2) (omega arith) (omega arith) in
+    let upper = xor-cancel k (a / 2) (b / 2) (c / 2) (omega arith) (omega arith) (omega (arith, e, one, other, d, d′)) in
+    omega (arith, e, one, other, d, d′, upper)
 
-front-sealed : (s : List ℕ) → take (length (sealed s) - 1) (sealed s) ≡ s
-unfolding sealed
-front-sealed s = take-at s (checkByte s ∷ []) (length (sealed s) - 1) (omega (arith, length-sealed s))
+-- One bit of the register backwards: where the last bit is one, the polynomial was added in and a one had left.
+back : ℕ → ℕ
+back s = cond (eqb (s % 2) 0) (s / 2) (bitXor s Polynomial / 2 + TopBit)
 
-pub taken-sealed : (s : List ℕ) → take (length s) (sealed s) ≡ s
-unfolding sealed
-taken-sealed s = take-at s (checkByte s ∷ []) (length s) refl
+back-test : ℕ → Bool
+back-test r = eqb (back (step r)) r
 
-last-sealed : (s : List ℕ) → getD (sealed s) (length (sealed s) - 1) 0 ≡ checkByte s
-unfolding sealed
-last-sealed s = getD-at s (checkByte s) [] 0 (length (sealed s) - 1) (omega (arith, length-sealed s))
+-- "a step of the register .. [is] one-to-one"
+step-one-to-one : (r q : ℕ) → r < 256 → q < 256 → step r ≡ step q → r ≡ q
+unfolding back-test back step
+step-one-to-one r q hr hq e =
+    sym (eqb→eq (back (step r)) r (below back-test 256 tt r hr)) ∙ ap back e ∙ eqb→eq (back (step q)) q (below back-test 256 tt q hq)
 
-pub sealed-is : (s : List ℕ) → isSealed (sealed s) ≡ true
-unfolding isSealed
-sealed-is s =
-    rw (lt-ltb 0 (length (sealed s)) (omega (arith, length-sealed s)), last-sealed s, front-sealed s) (eq-eqb (checkByte s) (checkByte s) refl)
+steps-one-to-one : (n r q : ℕ) → r < 256 → q < 256 → steps n r ≡ steps n q → r ≡ q
+unfolding steps
+steps-one-to-one zero r q hr hq e = e
+steps-one-to-one (suc n) r q hr hq e =
+    steps-one-to-one n r q hr hq (step-one-to-one (steps n r) (steps n q) (steps-lt n r hr) (steps-lt n q hq) e)
 
--- What a sealed run is sealed of.
-pub sealed-last : (s : List ℕ) → isSealed s ≡ true → (0 < length s) × (getD s (length s - 1) 0 ≡ checkByte (take (length s - 1) s))
-unfolding isSealed
-sealed-last s e = cases (ltb 0 (length s)) (λ t. (ltb-true _ _ t, eqb-true _ _ (rw t at e))) (λ f. absurd (true≢false (sym e ∙ rw f)))
+feed-xor : (r b q d : ℕ) → r < 256 → b < 256 → q < 256 → d < 256 → feed r b ≡ feed q d → bitXor r b ≡ bitXor q d
+unfolding feed
+feed-xor r b q d hr hb hq hd e =
+    steps-one-to-one ByteBits (bitXor r b) (bitXor q d) (xor-lt 8 r b hr hb) (xor-lt 8 q d hq hd) e
 
-pub sealed-again : (s : List ℕ) → isSealed s ≡ true → sealed (take (length s - 1) s) ≡ s
-unfolding sealed
-sealed-again s e =
-    let l = sealed-last s e in
-    ap (λ (b : ℕ). take (length s - 1) s ++ b ∷ []) (sym (l .1)) ∙ sym (unsnoc s (l .0))
+register-one-to-one : (s : List ℕ) (r q : ℕ) → r < 256 → q < 256 → Bytes s → register r s ≡ register q s → r ≡ q
+unfolding register
+register-one-to-one [] r q hr hq b e = e
+register-one-to-one (x ∷ s) r q hr hq b e =
+    let fed = register-one-to-one s (feed r x) (feed q x) (feed-lt r x hr (b 0)) (feed-lt q x hq (b 0)) (λ i. b (suc i)) e in
+    xor-cancel 255 r q x (omega arith) (omega arith) (feed-xor r x q x hr (b 0) hq (b 0) fed)
+
+-- The change of one byte shows in the check byte.
+pub register-shows : Shows checkByte
+unfolding checkByte register
+register-shows u v x y bx by e =
+    let r : ℕ = register AllOnes u in
+    let small : r < 256 = register-lt u AllOnes (omega arith) (bytes-front u (x ∷ v) bx) in
+    let hx : x < 256 = byte-at u x v bx in
+    let hy : y < 256 = byte-at u y v by in
+    let rest = bytes-behind u x v bx in
+    let over-x = register-append u (x ∷ v) AllOnes in
+    let over-y = register-append u (y ∷ v) AllOnes in
+    let lx = register-lt (u ++ x ∷ v) AllOnes (omega arith) bx in
+    let ly = register-lt (u ++ y ∷ v) AllOnes (omega arith) by in
+    let same : register (feed r x) v ≡ register (feed r y) v = omega (arith, e, over-x, over-y, lx, ly) in
+    let fed = register-one-to-one v (feed r x) (feed r y) (feed-lt r x small hx) (feed-lt r y small hy) rest same in
+    xor-cancel 255 x y r (omega arith) (omega arith) (xor-comm x r ∙ feed-xor r x r y small hx small hy fed ∙ xor-comm r y)

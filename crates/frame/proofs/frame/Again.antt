@@ -1,20 +1,21 @@
--- The parts of a frame that obeys the rules make that frame again.
+-- The parts of a frame of J1850 that obeys the rules make that frame again.
 use mathlib.Core.Path.{_≡_, sym, ap, _∙_}
 use mathlib.Core.List.{List, _++_}
 use Prim.Native.Nat.{ℕ, _+_, _-_, _≤_}
 use native.Mathlib.Omega.{arith}
 use lib.ListN.{length, take, drop, getD}
-use lib.Seq.{length-take-le, take-add, getD-take}
-use Rattle.frame.specs.CheckByte.{sealed}
+use lib.Seq.{length-take-le, getD-take}
+use Rattle.frame.specs.CheckByte.{checkByte, sealed}
 use Rattle.frame.specs.Response.{isUnassigned, wrongCount, sent, responseSize}
 use Rattle.frame.specs.Header.{headerSize, kindAsked}
 use Rattle.frame.specs.Refusal.{accepted}
 use Rattle.frame.specs.Reader.{partsOf, FrameObeys}
-use Rattle.frame.specs.Writer.{frameOf, frameSize, writeFrame}
-use Rattle.frame.proofs.check_byte.Laws.{sealed-again}
+use Rattle.frame.specs.Frame.{frameSize, partsAt}
+use Rattle.frame.specs.Writer.{frameOf, writeFrame}
 use Rattle.frame.proofs.response.Laws.{response-kept, response-again, response-size-le}
 use Rattle.frame.proofs.header.Laws.{header-range, same-size, same-kind}
 use Rattle.frame.proofs.writer.Laws.{Writes, write-accepts, write-unrefused}
+use Rattle.frame.proofs.frame.Laws.{run-again}
 
 module _ (first response : List ℕ) (o : FrameObeys first response) where
   header : List ℕ
@@ -39,11 +40,7 @@ module _ (first response : List ℕ) (o : FrameObeys first response) where
 
   first-again : sealed (header ++ body) ≡ first
   unfolding header body
-  first-again =
-      let n = headerSize first in
-      let count : n + (length first - (n + 1)) ≡ length first - 1 = omega (arith, o .long) in
-      let joint = sym (take-add n (length first - (n + 1)) first) ∙ ap (λ (m : ℕ). take m first) count in
-      ap sealed joint ∙ sealed-again first (o .check)
+  first-again = run-again checkByte first (headerSize first) (o .long) (o .check)
 
   sent-again : sent (kindAsked header) unchecked ≡ response
   unfolding unchecked
@@ -78,7 +75,7 @@ module _ (first response : List ℕ) (o : FrameObeys first response) where
       → length first + length response ≤ room
       → (let p = partsOf first response in writeFrame (p .header) (p .body) (p .response) room)
       ≡ accepted (record { first = first; response = response })
-  unfolding partsOf header body unchecked
+  unfolding partsOf partsAt header body unchecked
   again room fits =
       write-accepts header body unchecked room (write-unrefused header body unchecked room (writes-again room fits))
       ∙ ap accepted frame-again

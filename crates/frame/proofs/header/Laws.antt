@@ -3,7 +3,7 @@ use mathlib.Core.Path.{_≡_, refl, ap}
 use mathlib.Core.Logic.{_⊎_, inl, inr, ⊎-elim}
 use mathlib.Core.Bool.{Bool, true, false, cond}
 use mathlib.Core.List.{List}
-use Prim.Native.Nat.{ℕ, _≤_, _/_}
+use Prim.Native.Nat.{ℕ, _≤_, _/_, _%_}
 use native.Mathlib.Omega.{arith}
 use borrow.Author.Tests.{eq-eqb, ne-eqb}
 use lib.Bits.{bitAnd, and-mask}
@@ -11,9 +11,13 @@ use lib.Dec.{eqb}
 use lib.ListN.{getD}
 use Rattle.frame.specs.Header.{ThreeByteForm, OneByteForm, bitH, headerSize, messageType, responseKind, kindAsked}
 
--- Bit 4, moved down and masked, is H.
+-- A bit, moved down and masked.
+pub masked : (b weight : ℕ) → bitAnd (b / weight) 1 ≡ b / weight % 2
+masked b weight = and-mask (b / weight) 1
+
+-- So bit 4 is H.
 pub masked-h : (b : ℕ) → bitAnd (b / 16) 1 ≡ bitH b
-masked-h b = and-mask (b / 16) 1
+masked-h b = masked b 16
 
 pub three-bytes : (s : List ℕ) → bitH (getD s 0 0) ≡ 0 → headerSize s ≡ ThreeByteForm
 unfolding headerSize

@@ -1,23 +1,22 @@
--- Laws of reading.
-use mathlib.Core.Path.{_≡_, refl, sym, ap, _∙_, subst}
+-- Laws of reading a frame of J1850.
+use mathlib.Core.Path.{_≡_, sym, ap, _∙_, subst}
 use mathlib.Core.Bool.{not}
 use mathlib.Core.List.{List}
-use Prim.Native.Nat.{ℕ, _+_, _-_}
+use Prim.Native.Nat.{ℕ, _+_, _-_, _≤_}
 use native.Mathlib.Omega.{arith}
-use borrow.Author.Tests.{le-ltb, ltb-false, eqb-true, eqb-false, not-false}
-use lib.Dec.{eqb, lit<}
-use lib.ListN.{length, take, drop, length-drop}
+use borrow.Author.Tests.{le-ltb, ltb-false, not-false}
+use lib.Dec.{lit<}
+use lib.ListN.{length, take}
 use lib.Seq.{length-take-le}
 use Rattle.frame.specs.CheckByte.{isSealed}
 use Rattle.frame.specs.Response.{kindNumber, responseSize}
 use Rattle.frame.specs.Header.{headerSize, kindAsked}
-use Rattle.frame.specs.Frame.{Parts, MostBytes}
-use Rattle.frame.specs.Refusal.{Outcome, refused, accepted, NoRefusal}
-use Rattle.frame.specs.Reader.{readRules, readRefusal, partsOf, readFrame, FrameObeys, Sizes, sizes, SizesHanded}
-use Rattle.frame.proofs.bytes.Laws.{cases}
+use Rattle.frame.specs.Frame.{Parts, MostBytes, sizes, Handed}
+use Rattle.frame.specs.Refusal.{refused, accepted, NoRefusal}
+use Rattle.frame.specs.Reader.{readRules, readRefusal, partsOf, readFrame, FrameObeys}
 use Rattle.frame.proofs.response.Laws.{response-obeys, response-kept, response-size-le, kind-le}
-use Rattle.frame.proofs.header.Laws.{header-range}
-use Rattle.frame.proofs.refusal.Laws.{kept, last-kept, none-broken, unrefused-is, refused-is}
+use Rattle.frame.proofs.refusal.Laws.{kept, last-kept, none-broken, unrefused-is, refused-is, accepted-is}
+use Rattle.frame.proofs.frame.Laws.{sizes-at, handed-at}
 
 module _ (first response : List ℕ) where
   -- No refusal: every rule is obeyed.
@@ -57,85 +56,38 @@ module _ (first response : List ℕ) where
   unfolding readFrame
   read-refuses e = refused-is (readRefusal first response) (partsOf first response) e
 
-  -- What an accepted frame hands over: no part is longer than what it is cut from.
-  abbrev pub partSizes : Sizes
-  partSizes =
+  cut-size : length (take (responseSize (kindAsked first) (length response)) response) ≡ responseSize (kindAsked first) (length response)
+  cut-size =
+      length-take-le (responseSize (kindAsked first) (length response)) response (response-size-le (kindAsked first) (length response))
+
+  -- What is handed over of an accepted frame: the sizes of its parts, which lie within the runs.
+  pub accepted-sizes :
+      FrameObeys first response
+      → sizes (accepted (partsOf first response))
+      ≡ accepted (
       record {
         header = headerSize first;
         body = length first - (headerSize first + 1);
         kind = kindNumber (kindAsked first);
         response = responseSize (kindAsked first) (length response);
       }
-
-  pub accepted-sizes : FrameObeys first response → sizes (accepted (partsOf first response)) ≡ accepted partSizes
+      )
   unfolding partsOf
   accepted-sizes o =
-      let header = length-take-le (headerSize first) first (omega (arith, o .long)) in
-      let data-size = length first - (headerSize first + 1) in
-      let body = length-take-le data-size (drop (headerSize first) first) (simp length-drop (omega arith)) in
-      let n = responseSize (kindAsked first) (length response) in
-      let behind = length-take-le n response (response-size-le (kindAsked first) (length response)) in
-      rw (header, body, behind)
+      let n = headerSize first in
+      let kind = kindAsked first in
+      let cut = take (responseSize kind (length response)) response in
+      sizes-at n first kind cut (o .long)
+      ∙ (λ i. accepted (record { header = n; body = length first - (n + 1); kind = kindNumber kind; response = cut-size i }))
 
-  part-sizes-handed : FrameObeys first response → SizesHanded first response partSizes
-  part-sizes-handed o =
-      record {
-        header = header-range first;
-        body = omega (arith, o .long);
-        kind = kind-le (kindAsked first) (response-kept (kindAsked first) response (o .by-kind) .assigned);
-        most = o .most;
-        within = response-size-le (kindAsked first) (length response);
-      }
-
--- An answer of acceptance: the frame obeys the rules, and the sizes are those of its parts.
-pub record AcceptedSizes (first response : List ℕ) (s : Sizes) : Type 0 where
-  pub obeyed : FrameObeys first response
-  pub parts : readFrame first response ≡ accepted (partsOf first response)
-  pub same : partSizes first response ≡ s
-
-module _ (first response : List ℕ) (s : Sizes) (e : sizes (readFrame first response) ≡ accepted s) where
-  pub accepted-given : AcceptedSizes first response s
-  accepted-given =
-      cases (eqb (readRefusal first response) NoRefusal) (λ t. yes (eqb-true _ _ t))
-      (λ f. absurd (no (eqb-false (readRefusal first response) NoRefusal f)))
-    where
-      yes : readRefusal first response ≡ NoRefusal → AcceptedSizes first response s
-      yes z =
-          let o = obeys first response z in
-          let parts = read-accepts first response z in
-          let told : accepted (partSizes first response) ≡ accepted s =
-          sym (accepted-sizes first response o) ∙ ap sizes (sym parts) ∙ e in
-          record { obeyed = o; parts = parts; same = cc }
-
-      no : (readRefusal first response ≡ NoRefusal → ⊥) → ⊥
-      no n =
-          let f : refused (readRefusal first response) ≡ accepted s = ap sizes (sym (read-refuses first response n)) ∙ e in
-          let z : _≡_ {A = ℕ} 0 1 = cc in
-          omega arith
-
-  pub sizes-handed : SizesHanded first response s
-  sizes-handed =
-      let a = accepted-given in
-      subst (SizesHanded first response) (a .same) (part-sizes-handed first response (a .obeyed))
-
--- The sizes cut the parts out of the first run.
-pub record CutOut (first : List ℕ) (s : Sizes) (p : Parts) : Type 0 where
-  pub header : p .header ≡ take (s .header) first
-  pub body : p .body ≡ take (s .body) (drop (s .header) first)
-  pub kind : kindNumber (p .kind) ≡ s .kind
-
-pub cut-out :
-    (first response : List ℕ) (s : Sizes)
-    → sizes (readFrame first response) ≡ accepted s
-    → (p : Parts) × (readFrame first response ≡ accepted p) × CutOut first s p
-unfolding partsOf
-cut-out first response s e =
-    let a = accepted-given first response s e in
-    let p = partsOf first response in
-    let cut : CutOut first (partSizes first response) p = record { header = refl; body = refl; kind = refl } in
-    (p, a .parts, subst (λ (t : Sizes). CutOut first t p) (a .same) cut)
-
--- A refusal handed over is the reader's.
-pub refusal-handed : (o : Outcome Parts) (n : ℕ) → sizes o ≡ refused n → o ≡ refused n
-refusal-handed (refused m) n e = let f : m ≡ n = cc in ap refused f
-refusal-handed (accepted p) n e = absurd (let z : _≡_ {A = ℕ} 0 1 = cc in omega arith)
+  pub handed : (p : Parts) → readFrame first response ≡ accepted p → Handed first response p
+  unfolding readFrame partsOf
+  handed p e =
+      let read = accepted-is (readRefusal first response) (partsOf first response) p e in
+      let o = obeys (read .0) in
+      let kind = kindAsked first in
+      let cut = take (responseSize kind (length response)) response in
+      let known = kind-le kind (response-kept kind response (o .by-kind) .assigned) in
+      let told = ap (λ (n : ℕ). take n response) (sym cut-size) in
+      let within : length cut ≤ length response = omega (arith, cut-size, response-size-le kind (length response)) in
+      subst (Handed first response) (read .1) (handed-at (headerSize first) first kind cut (o .long) response known told within (o .most))

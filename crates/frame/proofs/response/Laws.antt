@@ -9,10 +9,10 @@ use lib.ListN.{length, take}
 use lib.Seq.{take-length}
 use Rattle.frame.specs.declared.response.ResponseKind.{ResponseKind}
 use Rattle.frame.specs.declared.response.ResponseKind.the-variants.{Empty, Single, Several, Data, Unassigned}
-use Rattle.frame.specs.CheckByte.{sealed, isSealed}
+use Rattle.frame.specs.CheckByte.{checkByte, sealed, isSealed}
 use Rattle.frame.specs.Response.{kindNumber, isUnassigned, isChecked, wrongCount, sent, responseSize, ResponseObeys, KindData}
 use Rattle.frame.proofs.bytes.Laws.{cases}
-use Rattle.frame.proofs.check_byte.Laws.{length-sealed, sealed-is, sealed-again, taken-sealed}
+use Rattle.frame.proofs.seal.Laws.{length-sealed, sealed-is, sealed-again, taken-sealed}
 
 -- Rules 4 to 6 are kept exactly when the response is what its kind asks for.
 pub record ResponseKept (kind : ResponseKind) (response : List ℕ) : Type 0 where
@@ -64,11 +64,11 @@ module _ (kind : ResponseKind) (a : List ℕ) where
 
   pub length-sent : length (sent kind a) ≡ cond (isChecked kind) (length a + 1) (length a)
   length-sent =
-      cases (isChecked kind) (λ e. rw (e, sent-checked e) (length-sealed a)) (λ e. rw (e, sent-plain e))
+      cases (isChecked kind) (λ e. rw (e, sent-checked e) (length-sealed checkByte a)) (λ e. rw (e, sent-plain e))
 
   pub sent-longer : length a ≤ length (sent kind a)
   sent-longer =
-      cases (isChecked kind) (λ e. rw (sent-checked e) (omega (arith, length-sealed a))) (λ e. rw (sent-plain e) (omega arith))
+      cases (isChecked kind) (λ e. rw (sent-checked e) (omega (arith, length-sealed checkByte a))) (λ e. rw (sent-plain e) (omega arith))
 
   -- its bytes without check byte are found again
   pub sent-size : responseSize kind (length (sent kind a)) ≡ length a
@@ -77,10 +77,10 @@ module _ (kind : ResponseKind) (a : List ℕ) where
 
   pub sent-found : take (responseSize kind (length (sent kind a))) (sent kind a) ≡ a
   sent-found =
-      cases (isChecked kind) (λ e. rw (sent-size, sent-checked e) (taken-sealed a)) (λ e. rw (sent-size, sent-plain e) (take-length a))
+      cases (isChecked kind) (λ e. rw (sent-size, sent-checked e) (taken-sealed checkByte a)) (λ e. rw (sent-size, sent-plain e) (take-length a))
 
   pub sent-sealed : (isChecked kind && not (isSealed (sent kind a))) ≡ false
-  sent-sealed = cases (isChecked kind) (λ e. rw (e, sent-checked e, sealed-is a)) (λ e. rw e)
+  sent-sealed = cases (isChecked kind) (λ e. rw (e, sent-checked e, sealed-is checkByte a)) (λ e. rw e)
 
 -- A response that its kind asks for is what it is without check byte, sent again.
 pub response-again :
@@ -91,5 +91,5 @@ unfolding sent responseSize
 response-again Empty r o = take-length r
 response-again Single r o = take-length r
 response-again Several r o = take-length r
-response-again Data r o = sealed-again r (o .1)
+response-again Data r o = sealed-again checkByte r (o .1)
 response-again Unassigned r o = absurd o

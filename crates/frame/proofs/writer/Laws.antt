@@ -1,39 +1,22 @@
--- Laws of writing: the size of a frame, and the writer's rules.
-use mathlib.Core.Path.{_≡_, sym, ap, _∙_, subst}
+-- Laws of writing a frame of J1850: its size, and the writer's rules.
+use mathlib.Core.Path.{_≡_, ap, _∙_, subst}
 use mathlib.Core.Bool.{true, false, cond, not}
-use mathlib.Core.List.{List, [], _∷_, _++_}
-use Prim.Native.Nat.{ℕ, _+_, _-_, _≤_, _<_}
+use mathlib.Core.List.{List, _++_}
+use Prim.Native.Nat.{ℕ, _+_, _≤_, _<_}
 use native.Mathlib.Omega.{arith}
-use borrow.Author.Tests.{lt-ltb, le-ltb, ltb-false, eq-eqb, eqb-true, eqb-false, not-false}
-use lib.Dec.{ltb, eqb, lit<}
-use lib.ListN.{length, take, drop, length-append}
-use Rattle.frame.specs.Bytes.{placed}
-use Rattle.frame.specs.CheckByte.{checkByte, sealed}
+use borrow.Author.Tests.{lt-ltb, le-ltb, ltb-false, eq-eqb, eqb-true, not-false}
+use lib.Dec.{ltb, lit<}
+use lib.ListN.{length, length-append}
+use Rattle.frame.specs.CheckByte.{checkByte}
 use Rattle.frame.specs.Response.{isChecked, isUnassigned, wrongCount, sent}
 use Rattle.frame.specs.Header.{headerSize, kindAsked}
-use Rattle.frame.specs.Frame.{MostBytes}
+use Rattle.frame.specs.Frame.{Frame, frameSize, MostBytes}
 use Rattle.frame.specs.Refusal.{refused, accepted, NoRefusal}
-use Rattle.frame.specs.Writer.{frameOf, frameSize, writeRules, writeRefusal, writeFrame, Runs, runs}
+use Rattle.frame.specs.Writer.{frameOf, writeRules, writeRefusal, writeFrame}
 use Rattle.frame.proofs.bytes.Laws.{cases}
-use Rattle.frame.proofs.bytes.Placed.{part-placed, joined}
-use Rattle.frame.proofs.check_byte.Laws.{length-sealed}
+use Rattle.frame.proofs.seal.Laws.{length-sealed}
 use Rattle.frame.proofs.response.Laws.{length-sent}
-use Rattle.frame.proofs.refusal.Laws.{kept, last-kept, none-broken, unrefused-is, refused-is}
-
--- The check byte of what stands from a place on, put right behind a run that was placed there, seals it.
-pub sealed-behind :
-    (out : List ℕ) (at : ℕ) (u : List ℕ) {o o′ : List ℕ} {from n : ℕ}
-    → o ≡ placed out at u
-    → o′ ≡ placed o n (checkByte (take (n - from) (drop from o)) ∷ [])
-    → from ≡ at
-    → n ≡ at + length u
-    → at + length u ≤ length out
-    → o′ ≡ placed out at (sealed u)
-unfolding sealed
-sealed-behind out at u {o = o} {from = from} {n = n} e e′ f p fits =
-    let size : n - from ≡ length u = omega (arith, f, p) in
-    let found : take (n - from) (drop from o) ≡ u = (λ i. take (size i) (drop (f i) (e i))) ∙ part-placed out at u fits in
-    joined out at u (checkByte u ∷ []) e (e′ ∙ ap (λ (w : List ℕ). placed o n (checkByte w ∷ [])) found) p fits
+use Rattle.frame.proofs.refusal.Laws.{kept, last-kept, none-broken, unrefused-is, refused-is, accepted-is}
 
 -- The writer's rules, said without an order.
 pub record Writes (header body response : List ℕ) (room : ℕ) : Type 0 where
@@ -48,7 +31,7 @@ module _ (h d a : List ℕ) where
   -- The size of a frame: its parts, the check byte, and one byte more for a kind 3 response.
   pub frame-size : frameSize (frameOf h d a) ≡ length h + length d + 1 + length (sent (kindAsked h) a)
   unfolding frameOf
-  frame-size = omega (arith, length-sealed (h ++ d), length-append h d)
+  frame-size = omega (arith, length-sealed checkByte (h ++ d), length-append h d)
 
   pub size-checked : isChecked (kindAsked h) ≡ true → frameSize (frameOf h d a) ≡ length h + length d + 1 + length a + 1
   size-checked e = omega (arith, frame-size, rw e at (length-sent (kindAsked h) a))
@@ -102,27 +85,10 @@ module _ (h d a : List ℕ) where
     unfolding writeFrame
     write-refuses e = refused-is (writeRefusal h d a room) (frameOf h d a) e
 
--- The two runs that are handed over lie within twelve bytes and within the lent room.
-pub runs-handed :
-    (h d a : List ℕ) (room : ℕ) (r : Runs)
-    → runs (writeFrame h d a room) ≡ accepted r
-    → (r .first + r .response ≤ MostBytes) × (r .first + r .response ≤ room)
-runs-handed h d a room r e =
-    cases (eqb (writeRefusal h d a room) NoRefusal) (λ t. yes (eqb-true _ _ t))
-    (λ f. absurd (no (eqb-false (writeRefusal h d a room) NoRefusal f)))
-  where
-    lengths : Runs
-    lengths = record { first = length (frameOf h d a .first); response = length (frameOf h d a .response) }
-
-    yes : writeRefusal h d a room ≡ NoRefusal → (r .first + r .response ≤ MostBytes) × (r .first + r .response ≤ room)
-    yes z =
-        let w = writes h d a room z in
-        let told : accepted lengths ≡ accepted r = ap runs (sym (write-accepts h d a room z)) ∙ e in
-        let same : lengths ≡ r = cc in
-        subst (λ (q : Runs). (q .first + q .response ≤ MostBytes) × (q .first + q .response ≤ room)) same (w .most, w .fits)
-
-    no : (writeRefusal h d a room ≡ NoRefusal → ⊥) → ⊥
-    no n =
-        let f : refused (writeRefusal h d a room) ≡ accepted r = ap runs (sym (write-refuses h d a room n)) ∙ e in
-        let z : _≡_ {A = ℕ} 0 1 = cc in
-        omega arith
+    -- What is written lies within twelve bytes and within the lent room.
+    pub written-within : (f : Frame) → writeFrame h d a room ≡ accepted f → (frameSize f ≤ MostBytes) × (frameSize f ≤ room)
+    unfolding writeFrame
+    written-within f e =
+        let made = accepted-is (writeRefusal h d a room) (frameOf h d a) f e in
+        let w = writes (made .0) in
+        subst (λ (g : Frame). (frameSize g ≤ MostBytes) × (frameSize g ≤ room)) (made .1) (w .most, w .fits)

@@ -2,15 +2,17 @@
 use mathlib.Core.Path.{sym}
 use native.Mathlib.Omega.{arith}
 use borrow.Author.Needs.{needs}
-use borrow.Author.Tests.{le-ltb, lt-ltb}
+use borrow.Author.Tests.{le-ltb}
 use lib.ListN.{length}
 use lib.Seq.{length-take-le}
-use Rattle.frame.specs.CheckByte.{isSealed}
+use Rattle.frame.specs.Seal.{isSealedBy}
+use Rattle.frame.specs.CheckByte.{checkByte}
+use Rattle.frame.proofs.seal.Laws.{last-decides}
 use Rattle.frame.proofs.check_byte.is_sealed.Statement.{statement}
 use Rattle.frame.proofs.check_byte.is_sealed.Tie as tie
 
 returns : tie.Need-returns
-unfolding isSealed
+unfolding isSealedBy
 returns c = sym (rw (le-ltb 0 (length (c .before .before .args .run .now)) (omega arith)))
 
 sub-last : tie.Need-sub-last
@@ -26,9 +28,9 @@ check-byte-requires : tie.Need-check-byte-requires
 check-byte-requires c κs = search needs
 
 returns-2 : tie.Need-returns-2
-unfolding isSealed
 returns-2 c =
-    rw (c .check-byte .ensures, lt-ltb 0 (length (c .before .before .before .before .before .args .run .now)) (omega arith))
+    let run = c .before .before .before .before .before .args .run .now in
+    rw (c .check-byte .ensures) (sym (last-decides checkByte run (omega arith)))
 
 pub is-sealed-spec : {M : Type 1} → statement M
 is-sealed-spec =

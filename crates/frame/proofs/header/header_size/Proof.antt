@@ -1,25 +1,20 @@
--- Bit 4, moved down and masked, is H.
+-- Three bytes where H is 0, one where it is not.
 use mathlib.Core.Path.{sym, ap, _∙_}
 use Rattle.frame.specs.Header.{bitH}
-use Rattle.frame.proofs.header.Laws.{masked-h, three-bytes, one-byte}
+use Rattle.frame.proofs.header.Laws.{three-bytes, one-byte}
 use borrow.Author.Needs.{needs}
 use Rattle.frame.proofs.header.header_size.Statement.{statement}
 use Rattle.frame.proofs.header.header_size.Tie as tie
 
-byte-at-requires : tie.Need-byte-at-requires
-byte-at-requires c κs = search needs
-
 returns : tie.Need-returns
 returns c =
-    let run = c .before .before .before .args .run .now in
-    let byte = c .before .byte-at in
-    sym (three-bytes run (ap bitH (sym (byte .ensures)) ∙ sym (masked-h (byte .result)) ∙ c .if1 .taken))
+    let first = c .before .before .byte-at .ensures in
+    sym (three-bytes _ (ap bitH (sym first) ∙ sym (c .before .bit-h .ensures) ∙ c .if1 .taken))
 
 returns-2 : tie.Need-returns-2
 returns-2 c =
-    let run = c .before .before .before .args .run .now in
-    let byte = c .before .byte-at in
-    sym (one-byte run (λ e. c .if1 .left (masked-h (byte .result) ∙ ap bitH (byte .ensures) ∙ e)))
+    let first = c .before .before .byte-at .ensures in
+    sym (one-byte _ (λ e. c .if1 .left (c .before .bit-h .ensures ∙ ap bitH first ∙ e)))
 
 pub header-size-spec : {M : Type 1} → statement M
-header-size-spec = tie.close (tie.spec byte-at-requires returns returns-2)
+header-size-spec = tie.close (tie.spec (λ c κs. search needs) (λ c κs. search needs) returns returns-2)

@@ -6,7 +6,8 @@ use borrow.Author.Needs.{needs}
 use lib.ListN.{length}
 use Rattle.frame.specs.Response.{kindNumber, responseSize}
 use Rattle.frame.specs.Refusal.{refused, accepted, NoRefusal}
-use Rattle.frame.specs.Reader.{readRefusal, FrameObeys, sizes}
+use Rattle.frame.specs.Frame.{sizes}
+use Rattle.frame.specs.Reader.{readRefusal, FrameObeys}
 use Rattle.frame.proofs.header.Laws.{header-range}
 use Rattle.frame.proofs.reader.Laws.{obeys, read-accepts, read-refuses, accepted-sizes}
 use Rattle.frame.proofs.reader.read_frame.Statement.{statement}

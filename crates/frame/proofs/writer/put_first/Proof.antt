@@ -3,46 +3,36 @@ use mathlib.Core.Path.{refl}
 use mathlib.Core.List.{_++_}
 use native.Mathlib.Omega.{arith}
 use lib.ListN.{length-append}
-use Rattle.frame.proofs.check_byte.Laws.{length-sealed}
-use Rattle.frame.proofs.writer.Laws.{sealed-behind}
-use Rattle.frame.proofs.bytes.Placed.{joined}
+use Rattle.frame.specs.CheckByte.{checkByte}
+use Rattle.frame.proofs.seal.Laws.{length-sealed, sealed-behind}
 use borrow.Author.Needs.{needs}
 use Rattle.frame.proofs.writer.put_first.Statement.{statement}
 use Rattle.frame.proofs.writer.put_first.Tie as tie
 
-add-end : tie.Need-add-end
-add-end c = search needs
-
-put-requires : tie.Need-put-requires
-put-requires c κs = search needs
-
-put-requires-2 : tie.Need-put-requires-2
-put-requires-2 c κs = search needs
-
 seal-requires : tie.Need-seal-requires
-seal-requires c κs = search needs
+seal-requires c κs =
+    let put = c .before .before .before in
+    let a = put .before .before .before .before .before .args in
+    let size = length-append (a .header .now) (a .body .now) in
+    (omega arith, omega (arith, put .put-both .ensures .1, put .put-both .kept, size))
 
 add-result : tie.Need-add-result
-add-result c = search needs
-
-same-length : tie.Need-same-length
-same-length c = search needs
+add-result c =
+    let put = c .before .before .before .before .before .before in
+    let a = put .before .before .before .before .before .args in
+    omega (arith, put .put-both .ensures .1, length-append (a .header .now) (a .body .now))
 
 returns : tie.Need-returns
 returns c =
-    let second = c .before .before .before .before .before .before in
-    let first = second .before .before .before .before in
-    let a = first .before .before .before .before .before .args in
-    let out = a .out .now in
-    let header = a .header .now in
-    let body = a .body .now in
-    let size = length-append header body in
-    let both = joined out 0 header body (first .put .ensures) (second .put2 .ensures) (omega arith) (omega arith) in (
-      sealed-behind out 0 (header ++ body) both (c .before .before .seal .ensures) refl (omega (arith, size)) (omega (arith, size)),
-      omega (arith, size, length-sealed (header ++ body)),
+    let put = c .before .before .before .before .before .before in
+    let a = put .before .before .before .before .before .args in
+    let both = a .header .now ++ a .body .now in
+    let size = length-append (a .header .now) (a .body .now) in
+    let told = put .put-both .ensures in (
+      sealed-behind checkByte (a .out .now) 0 both (told .0) (c .before .before .seal .ensures) refl (omega (arith, told .1)) (omega (arith, size)),
+      omega (arith, told .1, length-sealed checkByte both),
     )
 
 pub put-first-spec : {M : Type 1} → statement M
 put-first-spec =
-    tie.close
-    (tie.spec add-end put-requires put-requires-2 seal-requires add-result same-length returns)
+    tie.close (tie.spec (λ c κs. search needs) seal-requires add-result (λ c. search needs) returns)

@@ -5,11 +5,10 @@ use native.Mathlib.Omega.{arith}
 use borrow.Author.Needs.{needs}
 use lib.ListN.{length}
 use Rattle.frame.specs.Bytes.{placed}
-use Rattle.frame.specs.CheckByte.{sealed}
+use Rattle.frame.specs.CheckByte.{checkByte, sealed}
 use Rattle.frame.specs.Response.{sent}
-use Rattle.frame.proofs.check_byte.Laws.{length-sealed}
+use Rattle.frame.proofs.seal.Laws.{length-sealed, sealed-behind}
 use Rattle.frame.proofs.response.Laws.{sent-checked, sent-plain, sent-longer}
-use Rattle.frame.proofs.writer.Laws.{sealed-behind}
 use Rattle.frame.proofs.writer.put_response.Statement.{statement}
 use Rattle.frame.proofs.writer.put_response.Tie as tie
 
@@ -30,7 +29,7 @@ checked : (c : tie.Then1) → (let a = start c .args in sent (a .kind) (a .respo
 checked c = let a = start c .args in sent-checked (a .kind) (a .response .now) (sym (c .before .is-checked .ensures) ∙ c .if1 .taken)
 
 checked-size : (c : tie.Then1) → (let a = start c .args in length (sent (a .kind) (a .response .now)) ≡ length (a .response .now) + 1)
-checked-size c = ap length (checked c) ∙ length-sealed (start c .args .response .now)
+checked-size c = ap length (checked c) ∙ length-sealed checkByte (start c .args .response .now)
 
 seal-requires : tie.Need-seal-requires
 seal-requires c κs = omega (arith, checked-size (c .before), c .before .before .before .before .before .put .kept)
@@ -47,7 +46,7 @@ returns c =
     let a = start asked .args in
     let put = asked .before .before .before .before .put .ensures in
     let seal = c .before .before .seal .ensures in (
-      sealed-behind (a .out .now) (a .at) (a .response .now) put seal refl refl (omega (arith, checked-size asked))
+      sealed-behind checkByte (a .out .now) (a .at) (a .response .now) put seal refl refl (omega (arith, checked-size asked))
           ∙ ap (placed (a .out .now) (a .at)) (sym (checked asked)),
       sym (checked-size asked),
     )

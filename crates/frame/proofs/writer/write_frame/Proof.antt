@@ -6,13 +6,14 @@ use native.Mathlib.Omega.{arith}
 use borrow.Author.Needs.{needs}
 use lib.ListN.{length, length-append}
 use Rattle.frame.specs.Bytes.{placed}
-use Rattle.frame.specs.CheckByte.{sealed}
+use Rattle.frame.specs.CheckByte.{checkByte, sealed}
 use Rattle.frame.specs.Response.{sent}
 use Rattle.frame.specs.Header.{kindAsked}
 use Rattle.frame.specs.Refusal.{refused, accepted, NoRefusal}
-use Rattle.frame.specs.Writer.{frameOf, writeRefusal, outWritten, runs}
+use Rattle.frame.specs.Frame.{runs, outWritten}
+use Rattle.frame.specs.Writer.{frameOf, writeRefusal}
 use Rattle.frame.proofs.bytes.Placed.{joined}
-use Rattle.frame.proofs.check_byte.Laws.{length-sealed}
+use Rattle.frame.proofs.seal.Laws.{length-sealed}
 use Rattle.frame.proofs.writer.Laws.{writes, write-accepts, write-refuses}
 use Rattle.frame.proofs.writer.write_frame.Statement.{statement}
 use Rattle.frame.proofs.writer.write_frame.Tie as tie
@@ -55,7 +56,7 @@ put-first-requires c κs =
     let a = start (c .before) .args in
     let header = a .header .now in
     let body = a .body .now in
-    omega (arith, roomy (c .before), length-sealed (header ++ body), length-append header body)
+    omega (arith, roomy (c .before), length-sealed checkByte (header ++ body), length-append header body)
 
 kind-asked-requires : tie.Need-kind-asked-requires
 kind-asked-requires c κs = search needs

@@ -1,0 +1,126 @@
+-- Demand 2 for messages of ISO 9141-2: acceptance, the two round trips, and the agreement of reader and writer. The laws bear the
+-- names of J1850's in RoundTrip.
+use mathlib.Core.Path.{_≡_, refl, sym, ap, _∙_}
+use mathlib.Core.Logic.{_↔_}
+use mathlib.Core.Bool.{false, not, _||_}
+use mathlib.Core.List.{List, [], _∷_, _++_}
+use Prim.Native.Nat.{ℕ, _+_, _≤_, _<_}
+use native.Mathlib.Omega.{arith}
+use borrow.Author.Tests.{le-ltb, lt-ltb, eq-eqb}
+use lib.Dec.{ltb, eqb}
+use lib.ListN.{length, getD}
+use lib.Seq.{length-take-le, getD-take}
+use Rattle.frame.specs.declared.response.ResponseKind.the-variants.{Empty}
+use Rattle.frame.specs.Header.{bitH, bitK, ThreeByteForm}
+use Rattle.frame.specs.Frame.{Frame, frameSize, Parts, partsAt, MostBytes}
+use Rattle.frame.specs.Refusal.{accepted, firstBroken, NoRefusal, TooLong, TooShort, CheckWrong, FirstByteWrong}
+use Rattle.frame.specs.Iso.{sumByte, wrongFirst, isoReadRules, isoReadRefusal, isoParts, readIso, IsoObeys}
+use Rattle.frame.specs.Iso.{isoFrame, isoWriteRules, isoWriteRefusal, writeIso}
+use Rattle.frame.proofs.seal.Laws.{sealed-is}
+use Rattle.frame.proofs.refusal.Laws.{accepted-is, broken}
+use Rattle.frame.proofs.frame.Laws.{run, run-length, run-byte, parts-found, run-again}
+use Rattle.frame.proofs.iso.Laws.{obeys, read-accepts, read-unrefused, first-kept, frame-size}
+use Rattle.frame.proofs.iso.Laws.{IsoWrites, writes, write-accepts, write-unrefused}
+
+-- "A frame is accepted exactly when document 01 says so": some parts are handed over exactly when the rules are obeyed.
+pub frame-accepted-exactly : (s : List ℕ) → ((p : Parts) × (readIso s ≡ accepted p)) ↔ IsoObeys s
+unfolding readIso
+frame-accepted-exactly s = (
+  λ a. obeys s (accepted-is (isoReadRefusal s) (isoParts s) (a .0) (a .1) .0),
+  λ o. (isoParts s, read-accepts s (read-unrefused s o)),
+)
+
+same-first : (s t : List ℕ) → getD s 0 0 ≡ getD t 0 0 → wrongFirst s ≡ wrongFirst t
+unfolding wrongFirst
+same-first s t e = ap (λ (b : ℕ). eqb (bitH b) 1 || eqb (bitK b) 0) e
+
+-- Header and data without check byte; the header has three bytes.
+module _ (h d : List ℕ) (size : length h ≡ ThreeByteForm) where
+  -- The reader and the writer agree on every refusal that they share: rules 1 and 9 are broken for the message exactly when they
+  -- are broken for its parts, and a written message never breaks 2 or 3.
+  pub agree :
+      isoReadRules (isoFrame h d .first)
+      ≡ record { number = TooLong; broken = ltb MostBytes (frameSize (isoFrame h d)) }
+      ∷ record { number = TooShort; broken = false }
+      ∷ record { number = CheckWrong; broken = false }
+      ∷ record { number = FirstByteWrong; broken = wrongFirst h }
+      ∷ []
+  unfolding isoReadRules isoFrame
+  agree =
+      let first = run sumByte h d in
+      let total : length first ≡ frameSize (isoFrame h d) = omega arith in
+      let long = le-ltb (length first) (ThreeByteForm + 1) (omega (arith, run-length sumByte h d, size)) in
+      let byte = same-first first h (run-byte sumByte h d (omega (arith, size))) in
+      λ i.
+      record { number = TooLong; broken = ltb MostBytes (total i) }
+      ∷ record { number = TooShort; broken = long i }
+      ∷ record { number = CheckWrong; broken = not (sealed-is sumByte (h ++ d) i) }
+      ∷ record { number = FirstByteWrong; broken = byte i }
+      ∷ []
+
+  -- Within twelve bytes and the lent room the two refusals are the same number.
+  pub same-refusal :
+      (room : ℕ)
+      → frameSize (isoFrame h d) ≤ MostBytes
+      → frameSize (isoFrame h d) ≤ room
+      → isoReadRefusal (isoFrame h d .first) ≡ isoWriteRefusal h d room
+  unfolding isoReadRefusal isoWriteRefusal isoWriteRules firstBroken
+  same-refusal room most fits =
+      let n = frameSize (isoFrame h d) in
+      ap firstBroken agree ∙ rw (le-ltb MostBytes n most, le-ltb room n fits, eq-eqb (length h) ThreeByteForm size)
+
+  -- Over twelve bytes both refuse, the reader with 1.
+  pub both-refuse :
+      (room : ℕ)
+      → MostBytes < frameSize (isoFrame h d)
+      → (isoReadRefusal (isoFrame h d .first) ≡ TooLong) × (isoWriteRefusal h d room ≡ NoRefusal → ⊥)
+  unfolding isoReadRefusal
+  both-refuse room over = (
+    ap firstBroken agree ∙ broken _ _ (lt-ltb MostBytes (frameSize (isoFrame h d)) over),
+    λ e. omega (arith, writes h d room e .most),
+  )
+
+  pub message-parts : isoParts (isoFrame h d .first) ≡ record { header = h; body = d; kind = Empty; response = [] }
+  unfolding isoParts isoFrame
+  message-parts = parts-found sumByte h d ThreeByteForm (sym size) refl refl
+
+-- "written frames read back to the same parts"
+pub read-back :
+    (h d : List ℕ) (room : ℕ) (f : Frame)
+    → writeIso h d room ≡ accepted f
+    → readIso (f .first) ≡ accepted (record { header = h; body = d; kind = Empty; response = [] })
+unfolding writeIso
+read-back h d room f e =
+    let made = accepted-is (isoWriteRefusal h d room) (isoFrame h d) f e in
+    let w = writes h d room (made .0) in
+    let clear = same-refusal h d (w .size) room (w .most) (w .fits) ∙ made .0 in
+    sym (ap (λ g. readIso (g .first)) (made .1))
+    ∙ read-accepts (isoFrame h d .first) clear
+    ∙ ap accepted (message-parts h d (w .size))
+
+-- "accepted frames written again give the same bytes", wherever these fit the lent room.
+pub written-again :
+    (s : List ℕ) (p : Parts) (room : ℕ)
+    → readIso s ≡ accepted p
+    → length s ≤ room
+    → writeIso (p .header) (p .body) room ≡ accepted (record { first = s; response = [] })
+unfolding readIso isoParts partsAt isoFrame
+written-again s p room e fits =
+    let read = accepted-is (isoReadRefusal s) (isoParts s) p e in
+    let o = obeys s (read .0) in
+    let h = isoParts s .header in
+    let d = isoParts s .body in
+    let same : isoFrame h d ≡ record { first = s; response = [] } =
+    ap (λ (t : List ℕ). record { first = t; response = [] }) (run-again sumByte s ThreeByteForm (o .long) (o .check)) in
+    let total : frameSize (isoFrame h d) ≡ length s = ap frameSize same ∙ omega arith in
+    let byte : getD h 0 0 ≡ getD s 0 0 = getD-take ThreeByteForm s 0 0 (omega arith) in
+    let w : IsoWrites h d room =
+    record {
+      size = length-take-le ThreeByteForm s (omega (arith, o .long));
+      first = same-first h s byte ∙ first-kept s (o .first-h) (o .first-k);
+      most = omega (arith, total, o .most);
+      fits = omega (arith, total);
+    } in
+    sym (ap (λ (q : Parts). writeIso (q .header) (q .body) room) (read .1))
+    ∙ write-accepts h d room (write-unrefused h d room w)
+    ∙ ap accepted same

@@ -1,0 +1,2 @@
+-- The laws of sealed runs.
+pub mod Laws
