@@ -1,18 +1,23 @@
-//! The four calls of the C interface, and one call with its arguments.
+//! The calls of the C interface, and one call with its arguments.
 
+use crate::frame::bus::{Bus, Runs};
 use crate::frame::draft::Draft;
-use crate::frame::{reader, writer};
+use crate::frame::{iso, reader, writer};
 use crate::report::line::LONGEST;
 use crate::text::hex;
 use crate::{report, supplement};
 use std::fmt;
 
+/// Those without a bus in their name are of J1850, but for the supplement's.
 #[derive(Clone, Copy, Debug, PartialEq)]
 pub enum Call {
     Read,
     Write,
     Check,
     Report,
+    IsoRead,
+    IsoWrite,
+    IsoReport,
 }
 
 impl Call {
@@ -22,7 +27,33 @@ impl Call {
             Call::Write => "write",
             Call::Check => "supplement",
             Call::Report => "report",
+            Call::IsoRead => "ISO read",
+            Call::IsoWrite => "ISO write",
+            Call::IsoReport => "ISO report",
         }
+    }
+
+    /// The call that does the same on this bus.
+    pub fn on(self, bus: Bus) -> Call {
+        match (self, bus) {
+            (Call::Read, Bus::Iso9141) => Call::IsoRead,
+            (Call::Write, Bus::Iso9141) => Call::IsoWrite,
+            (Call::Report, Bus::Iso9141) => Call::IsoReport,
+            (call, _) => call,
+        }
+    }
+
+    /// A supplement's test counts with J1850.
+    pub fn bus(self) -> Bus {
+        match self {
+            Call::Read | Call::Write | Call::Check | Call::Report => Bus::J1850,
+            Call::IsoRead | Call::IsoWrite | Call::IsoReport => Bus::Iso9141,
+        }
+    }
+
+    /// It is this call, on one bus or the other.
+    pub fn is(self, call: Call) -> bool {
+        self == call.on(self.bus())
     }
 
     /// The byte runs lent to it, in its order of arguments.
@@ -32,6 +63,9 @@ impl Call {
             Call::Write => &["header", "data", "response", "output"],
             Call::Check => &["supplement"],
             Call::Report => &["supplement", "first", "response", "output"],
+            Call::IsoRead => &["run"],
+            Call::IsoWrite => &["header", "data", "output"],
+            Call::IsoReport => &["supplement", "run", "output"],
         }
     }
 
@@ -57,6 +91,13 @@ impl Call {
                 response,
                 out_length,
             }),
+            (Call::IsoRead, [run]) => (iso::answer_to_read(run), Vec::new()),
+            (Call::IsoWrite, [header, data]) => iso::answer_to_write(&iso::Request {
+                header,
+                data,
+                out_length,
+            }),
+            (Call::IsoReport, [supplement, run]) => report::iso_answer(supplement, run, out_length),
             _ => panic!("{} runs are not those of {}", inputs.len(), self.name()),
         }
     }
@@ -72,20 +113,12 @@ pub struct Case {
 }
 
 impl Case {
-    pub fn read((first, response): (Vec<u8>, Vec<u8>)) -> Case {
-        Case {
-            call: Call::Read,
-            inputs: vec![first, response],
-            out_length: 0,
-        }
+    pub fn read(runs: Runs) -> Case {
+        Case::read_on(Bus::J1850, runs)
     }
 
     pub fn write(draft: Draft, out_length: usize) -> Case {
-        Case {
-            call: Call::Write,
-            inputs: vec![draft.header, draft.data, draft.response],
-            out_length,
-        }
+        Case::write_on(Bus::J1850, draft, out_length)
     }
 
     pub fn check(supplement: Vec<u8>) -> Case {
@@ -97,11 +130,35 @@ impl Case {
     }
 
     /// Lent as much as the longest report needs.
-    pub fn report(supplement: Vec<u8>, (first, response): (Vec<u8>, Vec<u8>)) -> Case {
+    pub fn report(supplement: Vec<u8>, runs: Runs) -> Case {
+        Case::report_on(Bus::J1850, supplement, runs)
+    }
+
+    pub fn read_on(bus: Bus, (first, response): Runs) -> Case {
+        Case::of(Call::Read.on(bus), vec![first], response, 0)
+    }
+
+    pub fn write_on(bus: Bus, draft: Draft, out_length: usize) -> Case {
+        let inputs = vec![draft.header, draft.data];
+        Case::of(Call::Write.on(bus), inputs, draft.response, out_length)
+    }
+
+    /// Lent as much as the longest report needs.
+    pub fn report_on(bus: Bus, supplement: Vec<u8>, (first, response): Runs) -> Case {
+        let inputs = vec![supplement, first];
+        Case::of(Call::Report.on(bus), inputs, response, LONGEST)
+    }
+
+    /// The response comes last on the bus that has one.
+    fn of(call: Call, mut inputs: Vec<Vec<u8>>, response: Vec<u8>, out_length: usize) -> Case {
+        match call.bus() {
+            Bus::J1850 => inputs.push(response),
+            Bus::Iso9141 => assert!(response.is_empty(), "ISO 9141-2 has no response"),
+        }
         Case {
-            call: Call::Report,
-            inputs: vec![supplement, first, response],
-            out_length: LONGEST,
+            call,
+            inputs,
+            out_length,
         }
     }
 

@@ -1,6 +1,8 @@
 //! How many cases each class of answer has.
 
 use crate::case::Call;
+use crate::frame::bus::Bus;
+use crate::report::line::unknown;
 use crate::report::rows::{parse, unknown_number};
 use std::collections::BTreeMap;
 
@@ -45,9 +47,18 @@ fn class(call: Call, answer: u64) -> String {
         0 => "accepted".to_string(),
         number => format!("refused {number}"),
     };
-    match call {
-        Call::Read | Call::Write => format!("{} {verdict}", call.name()),
-        Call::Check | Call::Report => verdict,
+    if call.is(Call::Read) || call.is(Call::Write) {
+        format!("{} {verdict}", call.name())
+    } else {
+        on_bus(call, verdict)
+    }
+}
+
+/// A class of reports; those of ISO 9141-2 are counted by themselves.
+fn on_bus(call: Call, class: String) -> String {
+    match call.bus() {
+        Bus::J1850 => class,
+        Bus::Iso9141 => format!("ISO {class}"),
     }
 }
 
@@ -58,6 +69,9 @@ fn refusals(call: Call) -> &'static [u64] {
         Call::Write => &[7, 4, 5, 1, 8],
         Call::Check => &[10, 11, 12, 13, 14, 15],
         Call::Report => &[1, 2, 3, 4, 5, 6, 8, 10, 11, 12, 13, 14, 15],
+        Call::IsoRead => &[1, 2, 3, 9],
+        Call::IsoWrite => &[7, 9, 1, 8],
+        Call::IsoReport => &[1, 2, 3, 9, 8, 10, 11, 12, 13, 14, 15],
     }
 }
 
@@ -67,11 +81,16 @@ const SIXTEEN_ITEMS: &str = "sixteen items";
 pub fn classes(call: Call) -> Vec<String> {
     let mut classes = vec![class(call, 0)];
     classes.extend(refusals(call).iter().map(|number| class(call, *number)));
-    if call == Call::Report {
-        classes.extend((1..=3).map(|verdict| format!("verdict {verdict}")));
-        classes.extend((1..=10).map(|kind| format!("row {kind}")));
-        classes.extend((1..=8).map(|number| format!("Unknown {number}")));
-        classes.push(SIXTEEN_ITEMS.to_string());
+    if call.is(Call::Report) {
+        let has_response = call.bus() == Bus::J1850;
+        let is_there = |number: &u8| has_response || *number != unknown::RESPONSE;
+        let mut of_rows: Vec<String> = Vec::new();
+        of_rows.extend((1..=3).map(|verdict| format!("verdict {verdict}")));
+        of_rows.extend((1..=10).map(|kind| format!("row {kind}")));
+        let unknown = (1..=8).filter(is_there);
+        of_rows.extend(unknown.map(|number| format!("Unknown {number}")));
+        of_rows.push(SIXTEEN_ITEMS.to_string());
+        classes.extend(of_rows.into_iter().map(|class| on_bus(call, class)));
     }
     classes
 }
@@ -80,18 +99,19 @@ pub fn classes(call: Call) -> Vec<String> {
 /// twice.
 fn classes_of(call: Call, answer: u64, written: &[u8]) -> Vec<String> {
     let mut classes = vec![class(call, answer)];
-    let report = parse(written).filter(|_| call == Call::Report);
+    let report = parse(written).filter(|_| call.is(Call::Report));
     let Some(rows) = report else {
         return classes;
     };
-    classes.push(format!("verdict {}", rows.verdict));
+    let mut of_rows = vec![format!("verdict {}", rows.verdict)];
     if rows.items.len() == 16 {
-        classes.push(SIXTEEN_ITEMS.to_string());
+        of_rows.push(SIXTEEN_ITEMS.to_string());
     }
     for line in rows.lines() {
-        classes.push(format!("row {}", line[0]));
+        of_rows.push(format!("row {}", line[0]));
         let unknown = unknown_number(line);
-        classes.extend(unknown.map(|number| format!("Unknown {number}")));
+        of_rows.extend(unknown.map(|number| format!("Unknown {number}")));
     }
+    classes.extend(of_rows.into_iter().map(|class| on_bus(call, class)));
     classes
 }

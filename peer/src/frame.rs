@@ -1,12 +1,16 @@
-//! J1850 frames with consolidated headers: two byte runs, before EOD and after.
+//! Frames of J1850 with consolidated headers, two byte runs, before EOD and
+//! after; and messages of ISO 9141-2, one run. Both come apart into `Parts`.
 
+pub mod bus;
 pub mod check_byte;
 pub mod draft;
 pub mod header;
+pub mod iso;
 pub mod reader;
 pub mod writer;
 
-/// All bytes of both runs together number at most this.
+/// All bytes of a frame, both runs together, number at most this; of a message
+/// too.
 pub const MOST_BYTES: usize = 12;
 
 /// The refusals of reader and writer.
@@ -19,6 +23,27 @@ pub mod refusal {
     pub const RESPONSE_CHECK_BYTE: u8 = 6;
     pub const HEADER: u8 = 7;
     pub const OUTPUT_SHORT: u8 = 8;
+    /// ISO 9141-2 alone: a first byte with H = 1 or K = 0.
+    pub const FIRST_BYTE: u8 = 9;
+}
+
+/// What a reader hands on, the same on both buses: the parts of an accepted
+/// frame or message, without check bytes.
+#[derive(Debug, PartialEq)]
+pub struct Parts<'a> {
+    pub header: &'a [u8],
+    pub data: &'a [u8],
+    pub kind: u8,
+    pub response: &'a [u8],
+}
+
+/// Header and data of a run that ends with a check byte.
+fn split_run(run: &[u8], header_length: usize) -> (&[u8], &[u8]) {
+    without_last(run).split_at(header_length)
+}
+
+fn without_last(run: &[u8]) -> &[u8] {
+    &run[..run.len() - 1]
 }
 
 /// An accepted answer: low byte 0, the numbers in the bytes above it.
@@ -30,4 +55,17 @@ fn accepted_answer(numbers: &[usize]) -> u64 {
         answer |= (*number as u64) << (8 * (place + 1));
     }
     answer
+}
+
+/// The number that a reading call returns.
+fn read_answer(read: Result<Parts, u8>) -> u64 {
+    match read {
+        Ok(parts) => accepted_answer(&[
+            parts.header.len(),
+            parts.data.len(),
+            usize::from(parts.kind),
+            parts.response.len(),
+        ]),
+        Err(number) => u64::from(number),
+    }
 }

@@ -1,4 +1,5 @@
-//! The report of a supplement and a frame.
+//! The report of a supplement and a frame or message. What stands above the
+//! frame is told of the parts alone, whichever bus they came by.
 
 pub mod bits;
 pub mod double;
@@ -10,8 +11,8 @@ pub mod rows;
 pub mod scene;
 pub mod scene_random;
 
-use crate::frame::reader::{self, Parts};
 use crate::frame::refusal::OUTPUT_SHORT;
+use crate::frame::{iso, reader, Parts};
 use crate::sae::{self, Key, Prn, Slot};
 use crate::supplement;
 use crate::supplement::layout::Layout;
@@ -19,7 +20,7 @@ use crate::supplement::records::Records;
 use item::{Item, Place, WIDEST};
 use line::{row_kind, unknown, Line};
 
-/// What a report is asked of.
+/// What a report of a J1850 frame is asked of.
 #[derive(Clone, Copy, Debug)]
 pub struct Request<'a> {
     pub supplement: &'a [u8],
@@ -50,8 +51,8 @@ fn find_slot(records: &Records, key: Key) -> Option<Slot> {
     sae::slot_row(key).or_else(|| records.slot(key))
 }
 
-/// The lines of an accepted supplement and an accepted frame: those of the
-/// items, the remainder and the response.
+/// The lines of an accepted supplement and an accepted frame's parts: those of
+/// the items, the remainder and the response.
 pub fn lines(records: &Records, parts: &Parts) -> Vec<Line> {
     let layout = records.layout(layout_key(parts));
     let data = parts.data.get(1..).unwrap_or_default();
@@ -98,23 +99,38 @@ fn rows(lines: &[Line]) -> Vec<u8> {
     rows
 }
 
-/// The number `rakhubole_j1850_report` returns, and the bytes it puts at the
-/// start of the lent output; none for a refusal. The supplement is tested, then
-/// the frame, then the output.
-pub fn answer(request: &Request) -> (u64, Vec<u8>) {
-    let of_supplement = supplement::answer(request.supplement);
+/// The number that a report returns, and the bytes it puts at the start of the
+/// lent output; none for a refusal. The supplement is tested, then what the
+/// reader of the bus said, then the output.
+pub fn answer_over(
+    supplement: &[u8],
+    read: Result<Parts, u8>,
+    out_length: usize,
+) -> (u64, Vec<u8>) {
+    let of_supplement = supplement::answer(supplement);
     if of_supplement != 0 {
         return (of_supplement, Vec::new());
     }
-    let parts = match reader::read(request.first, request.response) {
+    let parts = match read {
         Ok(parts) => parts,
         Err(number) => return (number.into(), Vec::new()),
     };
-    let rows = rows(&lines(&Records::of(request.supplement), &parts));
-    if request.out_length < rows.len() {
+    let rows = rows(&lines(&Records::of(supplement), &parts));
+    if out_length < rows.len() {
         return (OUTPUT_SHORT.into(), Vec::new());
     }
     ((rows.len() as u64) << 8, rows)
+}
+
+/// What `rakhubole_j1850_report` answers and writes.
+pub fn answer(request: &Request) -> (u64, Vec<u8>) {
+    let read = reader::read(request.first, request.response);
+    answer_over(request.supplement, read, request.out_length)
+}
+
+/// What `rakhubole_iso9141_report` answers and writes.
+pub fn iso_answer(supplement: &[u8], run: &[u8], out_length: usize) -> (u64, Vec<u8>) {
+    answer_over(supplement, iso::read(run), out_length)
 }
 
 #[cfg(test)]

@@ -2,7 +2,9 @@
 
 use super::{Archive, Outcome, Run};
 use crate::case::Call;
+use crate::frame::bus::Bus;
 use crate::frame::check_byte::checked;
+use crate::frame::iso::summed;
 use crate::sae::form::UNM;
 use crate::sae::Prn;
 use crate::supplement::draft::prn_record;
@@ -27,38 +29,16 @@ impl Outcome {
     }
 
     /// Each run in its turn, then the output. Cut to 32 bits, a long run would be
-    /// sound. The short ones are vectors, so that a call that writes to one does
-    /// not end the program.
+    /// sound.
     fn lend_long(&mut self, archive: Archive, call: Call, block: &mut [u8]) {
-        let record = &prn_record(&Prn::new(0x1234, UNM, 8, 101))[..];
-        let (frame, response) = (&checked(&[0x12])[..], &vec![9][..]);
-        let (kind_1, kind_2, data) = (&vec![0x11][..], &vec![0x12][..], &vec![1, 2][..]);
-        let start = if call == Call::Check { record } else { frame };
-        block[..start.len()].copy_from_slice(start);
-        let long = |length: usize| &block[..EXCESS + length];
-        let cases: &[&[&[u8]]] = match call {
-            Call::Read => &[&[long(2), response], &[frame, long(1)]],
-            Call::Write => &[
-                &[long(1), &[], response],
-                &[kind_2, long(1), response],
-                &[kind_2, &[], long(1)],
-                &[kind_1, &[], long(1)],
-            ],
-            Call::Check => &[&[long(0)], &[long(record.len())]],
-            Call::Report => &[
-                &[long(0), frame, response],
-                &[&[], long(2), response],
-                &[&[], frame, long(1)],
-            ],
-        };
-        for inputs in cases {
-            self.compare_long(archive, call, inputs, &mut [0; SHORT_OUTPUT]);
+        let short = Short::of(call);
+        block[..short.sound.len()].copy_from_slice(&short.sound);
+        for inputs in short.beside_long(call, block) {
+            self.compare_long(archive, call, &inputs, &mut [0; SHORT_OUTPUT]);
         }
-        let out = &mut block[..EXCESS + 1];
-        match call {
-            Call::Write => self.compare_long(archive, call, &[kind_2, data, response], out),
-            Call::Report => self.compare_long(archive, call, &[&[], frame, response], out),
-            Call::Read | Call::Check => {}
+        if call.has_output() {
+            let out = &mut block[..EXCESS + 1];
+            self.compare_long(archive, call, &short.alone(call), out);
         }
     }
 
@@ -77,6 +57,70 @@ impl Outcome {
             let text = format!("{} of lengths {lengths:?}", call.name());
             let answers = format!("expected {expected:016X}, archive {given:016X}");
             self.differences.push(format!("{text}: {answers}"));
+        }
+    }
+}
+
+/// The runs that are not long. They are vectors, so that a call that writes to
+/// one does not end the program.
+struct Short {
+    /// A record, frame or message; a long run begins with it.
+    sound: Vec<u8>,
+    kind_1: Vec<u8>,
+    kind_2: Vec<u8>,
+    response: Vec<u8>,
+    data: Vec<u8>,
+}
+
+impl Short {
+    fn of(call: Call) -> Short {
+        Short {
+            sound: match (call, call.bus()) {
+                (Call::Check, _) => prn_record(&Prn::new(0x1234, UNM, 8, 101)),
+                (_, Bus::J1850) => checked(&[0x12]),
+                (_, Bus::Iso9141) => summed(&[0x68, 0x6A, 0xF1]),
+            },
+            kind_1: vec![0x11],
+            kind_2: vec![0x12],
+            response: vec![9],
+            data: vec![1, 2],
+        }
+    }
+
+    /// The inputs of the call with each run long in its turn.
+    fn beside_long<'a>(&'a self, call: Call, block: &'a [u8]) -> Vec<Vec<&'a [u8]>> {
+        let long = |length: usize| &block[..EXCESS + length];
+        let (sound, response) = (&self.sound[..], &self.response[..]);
+        let header = &sound[..sound.len() - 1];
+        match call {
+            Call::Read => vec![vec![long(2), response], vec![sound, long(1)]],
+            Call::Write => vec![
+                vec![long(1), &[], response],
+                vec![&self.kind_2, long(1), response],
+                vec![&self.kind_2, &[], long(1)],
+                vec![&self.kind_1, &[], long(1)],
+            ],
+            Call::Check => vec![vec![long(0)], vec![long(sound.len())]],
+            Call::Report => vec![
+                vec![long(0), sound, response],
+                vec![&[], long(2), response],
+                vec![&[], sound, long(1)],
+            ],
+            Call::IsoRead => vec![vec![long(4)]],
+            Call::IsoWrite => vec![vec![long(3), &[]], vec![header, long(1)]],
+            Call::IsoReport => vec![vec![long(0), sound], vec![&[], long(4)]],
+        }
+    }
+
+    /// The inputs of a call with an output, none of them long.
+    fn alone(&self, call: Call) -> Vec<&[u8]> {
+        let header = &self.sound[..self.sound.len() - 1];
+        match call {
+            Call::Write => vec![&self.kind_2, &self.data, &self.response],
+            Call::Report => vec![&[], &self.sound, &self.response],
+            Call::IsoWrite => vec![header, &self.data],
+            Call::IsoReport => vec![&[], &self.sound],
+            _ => panic!("{} has no output", call.name()),
         }
     }
 }

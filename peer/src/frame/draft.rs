@@ -1,12 +1,15 @@
-//! Drafts of frames, from which cases are made.
+//! Drafts of frames and messages, from which cases are made.
 
+use super::bus::{Bus, Runs};
 use super::check_byte::checked;
 use super::header::{header_length, kind_of_run, response_kind};
+use super::iso::{fitting_first_byte, summed};
 use super::writer::{first_run, response_run, result_length};
 use super::MOST_BYTES;
 use crate::random::Random;
 
-/// A frame's parts without check bytes. A draft need not be acceptable.
+/// A frame's parts without check bytes, or a message's, which has no response.
+/// A draft need not be acceptable.
 #[derive(Clone, Debug)]
 pub struct Draft {
     pub header: Vec<u8>,
@@ -20,6 +23,12 @@ impl Draft {
     pub fn random(random: &mut Random) -> Draft {
         let first_byte = random_first_byte(random);
         Draft::random_of(another_type(first_byte, random), random)
+    }
+
+    /// An acceptable message of ISO 9141-2; one in four has twelve bytes.
+    pub fn random_message(random: &mut Random) -> Draft {
+        let first_byte = fitting_first_byte(random.byte());
+        Draft::random_of(first_byte, random)
     }
 
     /// An acceptable frame with this first byte, if its type is assigned.
@@ -69,8 +78,22 @@ impl Draft {
         result_length(&self.header, &self.data, &self.response)
     }
 
+    /// The runs with the check bytes of the bus.
+    pub fn runs_on(&self, bus: Bus) -> Runs {
+        match bus {
+            Bus::J1850 => self.runs(),
+            Bus::Iso9141 => (self.message(), Vec::new()),
+        }
+    }
+
+    /// Header, data and their sum.
+    pub fn message(&self) -> Vec<u8> {
+        assert!(self.response.is_empty(), "ISO 9141-2 has no response");
+        summed(&[&self.header[..], &self.data].concat())
+    }
+
     /// Both runs with their check bytes.
-    pub fn runs(&self) -> (Vec<u8>, Vec<u8>) {
+    pub fn runs(&self) -> Runs {
         let kind = kind_of_run(&self.header);
         (
             first_run(&self.header, &self.data),

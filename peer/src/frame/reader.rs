@@ -3,16 +3,8 @@
 use super::check_byte;
 use super::header::{header_length, response_kind};
 use super::refusal::*;
-use super::{accepted_answer, MOST_BYTES};
-
-/// An accepted frame's parts, without check bytes.
-#[derive(Debug, PartialEq)]
-pub struct Parts<'a> {
-    pub header: &'a [u8],
-    pub data: &'a [u8],
-    pub kind: u8,
-    pub response: &'a [u8],
-}
+pub use super::Parts;
+use super::{read_answer, split_run, without_last, MOST_BYTES};
 
 /// The parts of the frame, or the refusal of the first test that fails, in the
 /// order 1 to 6.
@@ -36,10 +28,10 @@ pub fn read<'a>(first: &'a [u8], response: &'a [u8]) -> Result<Parts<'a>, u8> {
     if kind == 3 && check_byte::is_wrong(response) {
         return Err(RESPONSE_CHECK_BYTE);
     }
-    let (header, rest) = first.split_at(header_length);
+    let (header, data) = split_run(first, header_length);
     Ok(Parts {
         header,
-        data: without_last(rest),
+        data,
         kind,
         response: match kind {
             3 => without_last(response),
@@ -57,21 +49,9 @@ fn is_count_wrong(kind: u8, response: &[u8]) -> bool {
     }
 }
 
-fn without_last(run: &[u8]) -> &[u8] {
-    &run[..run.len() - 1]
-}
-
 /// The number `rakhubole_j1850_read` returns.
 pub fn answer(first: &[u8], response: &[u8]) -> u64 {
-    match read(first, response) {
-        Ok(parts) => accepted_answer(&[
-            parts.header.len(),
-            parts.data.len(),
-            usize::from(parts.kind),
-            parts.response.len(),
-        ]),
-        Err(number) => u64::from(number),
-    }
+    read_answer(read(first, response))
 }
 
 #[cfg(test)]

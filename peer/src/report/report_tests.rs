@@ -2,6 +2,7 @@ use super::line::LONGEST;
 use super::scene::{own_rows, plain, whole_slot, Sample, Scene};
 use super::*;
 use crate::case::Case;
+use crate::frame::bus::Bus;
 use crate::frame::check_byte::checked;
 use crate::frame::draft::Draft;
 use crate::random::Random;
@@ -143,4 +144,40 @@ fn the_longest_report() {
     assert_eq!(rows.len(), LONGEST);
     assert!(rows.ends_with(&[9, 0, 10, 0, 11, 1]));
     assert_eq!(rows_of(&[], 10), [9, 72, 10, 0, 11, 2]);
+}
+
+#[test]
+fn both_buses_share_layouts_and_lines() {
+    let mut random = Random::new(63);
+    for _ in 0..500 {
+        let scene = super::scene_random::scene_on(Bus::Iso9141, &mut random);
+        let answer = scene.case().answer();
+        assert_eq!(answer.0 & 0xFF, 0);
+        assert_eq!(answer.1[answer.1.len() - 4..][..2], [10, 0]);
+        assert_eq!(scene.on(Bus::J1850).case().answer(), answer);
+    }
+}
+
+#[test]
+fn a_message_of_another_priority_finds_the_layout() {
+    let layout = Layout::of_key([0x08, 0x6A, 1, 0x01]).with_prns(&[0x1025]);
+    let message = [0x68, 0x6A, 0xF1, 0x01, 0x0C, 0xD0];
+    let rows = [1, 0x40, 0x28, 0, 0, 0, 0, 0, 0, 9, 0, 10, 0, 11, 1];
+    let answer = iso_answer(&layout_record(&layout), &message, 15);
+    assert_eq!(answer, (15 << 8, rows.to_vec()));
+    assert_eq!(iso_answer(&layout_record(&layout), &message, 14).0, 8);
+}
+
+#[test]
+fn order_of_refusals_of_a_message() {
+    let faulty = [0x61, 0x6A, 0xF1, 0x01, 0x0C, 0xD0];
+    let answer = |supplement: &[u8], run: &[u8]| iso_answer(supplement, run, 0);
+    assert_eq!(answer(&[9], &faulty), (11, Vec::new()));
+    assert_eq!(answer(&[], &[0x61; 13]), (1, Vec::new()));
+    assert_eq!(answer(&[], &faulty[..3]), (2, Vec::new()));
+    assert_eq!(answer(&[], &faulty), (3, Vec::new()));
+    let summed = iso::summed(&faulty[..5]);
+    assert_eq!(answer(&[], &summed), (9, Vec::new()));
+    let sound = iso::summed(&[0x68, 0x6A, 0xF1]);
+    assert_eq!(answer(&[], &sound), (8, Vec::new()));
 }

@@ -1,11 +1,13 @@
-//! A frame and the records that tell of it, from which cases are made.
+//! A frame or message and the records that tell of it, from which cases are
+//! made.
 
 use super::bits::put;
 use super::layout_key;
 use crate::case::Case;
+use crate::frame::bus::{Bus, Runs};
 use crate::frame::draft::Draft;
 use crate::frame::header::{kind_of_run, response_kind};
-use crate::frame::reader::Parts;
+use crate::frame::Parts;
 use crate::random::Random;
 use crate::sae::form::SNM;
 use crate::sae::{all_ones, has_prn, has_slot, prn_row, Key, Prn, Slot};
@@ -84,6 +86,7 @@ pub fn whole_slot(form: u8, width: u8, number: u16) -> Slot {
 
 #[derive(Clone, Debug)]
 pub struct Scene {
+    pub bus: Bus,
     pub frame: Draft,
     pub layout: Layout,
     pub prns: Vec<Prn>,
@@ -93,16 +96,23 @@ pub struct Scene {
 }
 
 impl Scene {
-    /// The layout that the frame seeks, as yet without PRNs.
+    /// The layout that the frame seeks, as yet without PRNs; on J1850.
     pub fn of(frame: Draft) -> Scene {
         let layout = Layout::of_key(layout_key(&parts_of(&frame)));
         Scene {
+            bus: Bus::J1850,
             frame,
             layout,
             prns: Vec::new(),
             slots: Vec::new(),
             end: 0,
         }
+    }
+
+    /// The same parts and records on this bus.
+    pub fn on(mut self, bus: Bus) -> Scene {
+        self.bus = bus;
+        self
     }
 
     /// A frame with just enough data for the samples, and zero fill up to the
@@ -153,8 +163,17 @@ impl Scene {
         list
     }
 
+    pub fn runs(&self) -> Runs {
+        self.frame.runs_on(self.bus)
+    }
+
     pub fn case(&self) -> Case {
-        Case::report(self.records().concat(), self.frame.runs())
+        self.case_under(self.records().concat())
+    }
+
+    /// The case of its runs under another supplement.
+    pub fn case_under(&self, supplement: Vec<u8>) -> Case {
+        Case::report_on(self.bus, supplement, self.runs())
     }
 }
 

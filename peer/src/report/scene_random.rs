@@ -3,16 +3,27 @@
 
 use super::item::{limits, raw_number};
 use super::scene::{Sample, Scene};
+use crate::frame::bus::Bus;
 use crate::frame::draft::{random_first_byte, room, Draft};
 use crate::frame::header::response_kind;
+use crate::frame::iso::fitting_first_byte;
 use crate::random::Random;
 use crate::sae::form::*;
 use crate::sae::{all_ones, has_prn, prn_row, slot_row, Prn, Slot, PRNS, SLOTS};
 use crate::supplement::draft::{random_prn, random_slot};
 use crate::supplement::record::PLACES;
 
+/// A scene on J1850.
 pub fn scene(random: &mut Random) -> Scene {
-    let mut scene = Scene::of(frame(random));
+    scene_on(Bus::J1850, random)
+}
+
+pub fn scene_on(bus: Bus, random: &mut Random) -> Scene {
+    let first_byte = match bus {
+        Bus::J1850 => random_first_byte(random),
+        Bus::Iso9141 => fitting_first_byte(random.byte()),
+    };
+    let mut scene = Scene::of(frame(first_byte, random)).on(bus);
     let aim = match random.below(10) {
         0 => random.below(scene.bits() + 1),
         1 => scene.bits() + random.between(1, 20),
@@ -36,9 +47,8 @@ pub fn scene(random: &mut Random) -> Scene {
     scene
 }
 
-/// Each kind and form, and longer data more often.
-fn frame(random: &mut Random) -> Draft {
-    let first_byte = random_first_byte(random);
+/// Longer data more often.
+fn frame(first_byte: u8, random: &mut Random) -> Draft {
     let room = room(first_byte);
     let response = match response_kind(first_byte) {
         Some(0) => 0,
