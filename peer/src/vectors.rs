@@ -1,11 +1,15 @@
 //! Vector files: one case a line, and one line of expected output for each.
 
 pub mod frame;
+mod frame_iso_reads;
+mod frame_iso_writes;
 mod frame_reads;
 mod frame_writes;
 pub mod report;
 mod report_bench;
 mod report_frames;
+mod report_iso;
+mod report_iso_bench;
 mod report_items;
 mod report_places;
 mod report_states;

@@ -1,8 +1,9 @@
 // Runs the frame vectors through the exported calls and prints what each answers.
 //
-// A line of standard input is one case, by columns: 0 the call, R or W; then four lengths at 2, 38, 74 and 110, and three runs of
-// sixteen bytes at 5, 41 and 77, all in hexadecimal. R reads the first two runs. W writes a header, data and response into as
-// many bytes as the last length says, of a buffer that is shown whole.
+// A line of standard input is one case, by columns: 0 the call; then four lengths at 2, 38, 74 and 110, and three runs of sixteen
+// bytes at 5, 41 and 77, all in hexadecimal. R reads the first two runs as a frame of J1850, r the first as a message of ISO 9141-2.
+// W writes a header, data and response, w a header and data, into as many bytes as the last length says, of a buffer that is shown
+// whole.
 use libc::STDIN_FILENO;
 use libc::STDOUT_FILENO;
 ghost use mathlib.Core.Path.{_≡_};
@@ -10,6 +11,12 @@ ghost use Prim.Native.Nat.{_+_, _≤_};
 ghost use lib.ListN.{length};
 
 const LINE: usize = 113;
+
+const J1850_READ: u8 = b'R';
+
+const J1850_WRITE: u8 = b'W';
+
+const ISO9141_READ: u8 = b'r';
 
 // The columns of the lengths, and how far behind each its run starts.
 const FIRST: usize = 2;
@@ -60,16 +67,32 @@ fn show_buffer(bytes: &[u8; BUFFER]) {
 fn read_case(line: &[u8; LINE]) {
     let first = run_at(line, FIRST);
     let response = run_at(line, SECOND);
-    show_word(c_api::rakhubole_j1850_read(
-        hex::counted(&first, length_at(line, FIRST)),
-        hex::counted(&response, length_at(line, SECOND)),
-    ));
+    let run = hex::counted(&first, length_at(line, FIRST));
+    if line[0] == J1850_READ {
+        show_word(c_api::rakhubole_j1850_read(
+            run,
+            hex::counted(&response, length_at(line, SECOND)),
+        ));
+    } else {
+        show_word(c_api::rakhubole_iso9141_read(run));
+    }
 }
 
-// The frame into so many bytes of a buffer.
-fn write_into(header: &[u8], body: &[u8], response: &[u8], out: &mut [u8], room: usize) -> u64 {
+// The frame or message into so many bytes of a buffer.
+fn write_into(
+    call: u8,
+    header: &[u8],
+    body: &[u8],
+    response: &[u8],
+    out: &mut [u8],
+    room: usize,
+) -> u64 {
     let lent = hex::fewer(room, out.len());
-    c_api::rakhubole_j1850_write(header, body, response, &mut out[..lent])
+    if call == J1850_WRITE {
+        c_api::rakhubole_j1850_write(header, body, response, &mut out[..lent])
+    } else {
+        c_api::rakhubole_iso9141_write(header, body, &mut out[..lent])
+    }
 }
 
 fn write_case(line: &[u8; LINE]) {
@@ -78,6 +101,7 @@ fn write_case(line: &[u8; LINE]) {
     let response = run_at(line, THIRD);
     let mut out = [FILLING; BUFFER];
     show_word(write_into(
+        line[0],
         hex::counted(&header, length_at(line, FIRST)),
         hex::counted(&body, length_at(line, SECOND)),
         hex::counted(&response, length_at(line, THIRD)),
@@ -94,7 +118,7 @@ fn next_case() -> bool {
     if io::read_full(STDIN_FILENO, &mut line) < LINE {
         return false;
     }
-    if line[0] == b'R' {
+    if line[0] == J1850_READ || line[0] == ISO9141_READ {
         read_case(&line);
     } else {
         write_case(&line);

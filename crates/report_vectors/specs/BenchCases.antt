@@ -1,4 +1,4 @@
--- P1 to P13 of document 01, "Bench cases", in its order: one table, read beside the paper.
+-- P1 to P13 of document 01, "Bench cases", in its order: one table, read beside the paper; and one of the refusals of ISO 9141-2.
 use Prim.Native.Nat.{ℕ}
 use mathlib.Core.Logic.{_⊎_, inl, inr}
 use mathlib.Core.List.{List, [], _∷_}
@@ -6,6 +6,7 @@ use mathlib.Core.Option.{Option, none, some}
 use lib.IntN.{ℤ, pos, negℤ}
 use lib.Ieee.{binary64, ofInt}
 use Rattle.frame.specs.Reader.{readRefusal}
+use Rattle.frame.specs.Iso.{isoReadRefusal}
 use Rattle.catalogue.specs.declared.rows.SlotRow.{SlotRow}
 use Rattle.catalogue.specs.Rows.{UNM, SNM, slot, neg}
 use Rattle.catalogue.specs.Sae.{saeSlot}
@@ -13,10 +14,12 @@ use Rattle.report.specs.declared.line.Line.{Line}
 use Rattle.report.specs.declared.line.Line.the-variants.{Number, Invalid, Unknown}
 use Rattle.report.specs.Scaling.{formLine}
 
--- An item: its SLOT, its raw number and the line expected. A frame: its two runs and the refusal expected.
+-- An item: its SLOT, its raw number and the line expected. A frame of J1850: its two runs and the refusal expected. A message of
+-- ISO 9141-2: its run and the refusal expected.
 pub data Case : Type 0 where
   item : Option SlotRow → ℕ → Line → Case
   frame : List ℕ → List ℕ → ℕ → Case
+  message : List ℕ → ℕ → Case
 
 -- The double of a whole number.
 abbrev pub number : ℤ → Line
@@ -49,6 +52,24 @@ benchCases =
     ∷ frame (0x48 ∷ 0x6B ∷ 0x10 ∷ 0x41 ∷ 1 ∷ 2 ∷ 3 ∷ 4 ∷ 5 ∷ 6 ∷ 7 ∷ 8 ∷ 9 ∷ []) [] 1
     ∷ []
 
+-- Document 02, K1: "Refusals: 1, 2 (below four bytes), 3, then 9 for a first byte with H = 1 or K = 0".
+unfoldable pub isoCases : List Case
+isoCases =
+    -- a header of 68h 6Ah F1h with data and its sum; four bytes are the least
+    message (0x68 ∷ 0x6A ∷ 0xF1 ∷ 0x01 ∷ 0x0C ∷ 0xD0 ∷ []) 0
+    ∷ message (0x68 ∷ 0x6A ∷ 0xF1 ∷ 0xC3 ∷ []) 0
+    ∷ message (0x68 ∷ 0x6A ∷ 0xD2 ∷ []) 2
+    ∷ message [] 2
+    -- twelve bytes are the most
+    ∷ message (0x48 ∷ 0x6B ∷ 0x10 ∷ 1 ∷ 2 ∷ 3 ∷ 4 ∷ 5 ∷ 6 ∷ 7 ∷ 8 ∷ 0xE7 ∷ []) 0
+    ∷ message (0x48 ∷ 0x6B ∷ 0x10 ∷ 1 ∷ 2 ∷ 3 ∷ 4 ∷ 5 ∷ 6 ∷ 7 ∷ 8 ∷ 9 ∷ 0xF0 ∷ []) 1
+    -- another check byte; H = 1; K = 0; both faults
+    ∷ message (0x68 ∷ 0x6A ∷ 0xF1 ∷ 0xC4 ∷ []) 3
+    ∷ message (0x78 ∷ 0x6A ∷ 0xF1 ∷ 0xD3 ∷ []) 9
+    ∷ message (0x60 ∷ 0x6A ∷ 0xF1 ∷ 0xBB ∷ []) 9
+    ∷ message (0x60 ∷ 0x6A ∷ 0xF1 ∷ 0xBC ∷ []) 3
+    ∷ []
+
 -- The line of a raw number by its SLOT; "no SLOT of that form, width and number, Unknown 3".
 unfoldable pub lineBy : Option SlotRow → ℕ → Line
 lineBy none raw = Unknown 3
@@ -58,7 +79,9 @@ lineBy (some s) raw = formLine (s .form) (s .width) s raw
 unfoldable pub answered : Case → Line ⊎ ℕ
 answered (item s raw l) = inl (lineBy s raw)
 answered (frame first response n) = inr (readRefusal first response)
+answered (message run n) = inr (isoReadRefusal run)
 
 unfoldable pub expected : Case → Line ⊎ ℕ
 expected (item s raw l) = inl l
 expected (frame first response n) = inr n
+expected (message run n) = inr n

@@ -1,9 +1,9 @@
 // Runs document 01's bench cases and the report vectors through the exported call and prints what each answers.
 //
-// A line of standard input is one case in hexadecimal: the supplement, the first run and the response, each as four digits of its
-// length, a space, its bytes and a space; then four digits of how much is lent of a buffer. The answer is shown with the lent bytes
-// and the two behind them. The bench cases stand first, and the file `names` beside `stdin` names each; P1 to P13 are proved of the
-// definitions in proofs/BenchLaws.antt.
+// A line of standard input is one case: the bus, J for J1850 or I for ISO 9141-2, and a space; in hexadecimal the supplement, the
+// first run and the response, each as four digits of its length, a space, its bytes and a space; then four digits of how much is lent
+// of a buffer. The answer is shown with the lent bytes and the two behind them. The bench cases stand first, and the file `names`
+// beside `stdin` names each; P1 to P13 and those of ISO 9141-2 are proved of the definitions in proofs/BenchLaws.antt.
 use libc::STDIN_FILENO;
 use libc::STDOUT_FILENO;
 ghost use mathlib.Core.Path.{_≡_};
@@ -23,6 +23,11 @@ const TEXT: usize = BYTE_DIGITS * BUFFER;
 const BEHIND: usize = 2;
 
 const FILLING: u8 = 0xA5;
+
+// The letter of a bus and the space behind it.
+const BUS: usize = 2;
+
+const J1850: u8 = b'J';
 
 // Four digits and the character behind them.
 const HEAD: usize = 5;
@@ -86,6 +91,7 @@ fn show_bytes(bytes: &[u8]) {
 
 // The report into so many bytes of a buffer.
 fn report_into(
+    bus: u8,
     supplement: &[u8],
     first: &[u8],
     response: &[u8],
@@ -93,14 +99,18 @@ fn report_into(
     room: usize,
 ) -> u64 {
     let lent = hex::fewer(room, out.len());
-    c_api::rakhubole_j1850_report(supplement, first, response, &mut out[..lent])
+    if bus == J1850 {
+        c_api::rakhubole_j1850_report(supplement, first, response, &mut out[..lent])
+    } else {
+        c_api::rakhubole_iso9141_report(supplement, first, &mut out[..lent])
+    }
 }
 
-fn run_case(supplement: &[u8], first: &[u8], response: &[u8], room: usize)
+fn run_case(bus: u8, supplement: &[u8], first: &[u8], response: &[u8], room: usize)
     requires { ⌜ room < NumberEnd ⌝ }
 {
     let mut out = [FILLING; BUFFER];
-    let answer = report_into(supplement, first, response, &mut out, room);
+    let answer = report_into(bus, supplement, first, response, &mut out, room);
     io::print_hex(STDOUT_FILENO, answer, WORD_DIGITS);
     io::write_all(STDOUT_FILENO, b" ");
     show_bytes(hex::counted(&out, room + BEHIND));
@@ -112,6 +122,8 @@ fn next_case() -> bool {
     let mut supplement = supplement_buffer();
     let mut first = [0u8; RUN];
     let mut response = [0u8; RUN];
+    let mut bus = [0u8; BUS];
+    io::read_full(STDIN_FILENO, &mut bus);
     let s = read_run(&mut supplement);
     let f = read_run(&mut first);
     let r = read_run(&mut response);
@@ -120,6 +132,7 @@ fn next_case() -> bool {
         return false;
     }
     run_case(
+        bus[0],
         hex::counted(&supplement, s.value),
         hex::counted(&first, f.value),
         hex::counted(&response, r.value),

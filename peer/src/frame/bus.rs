@@ -1,6 +1,6 @@
 //! The two buses, for what is done alike on both.
 
-use super::{iso, reader, Parts};
+use super::{check_byte, iso, reader, Parts};
 
 #[derive(Clone, Copy, Debug, PartialEq)]
 pub enum Bus {
@@ -23,6 +23,14 @@ impl Bus {
                 assert!(response.is_empty(), "ISO 9141-2 has no response");
                 iso::read(first)
             }
+        }
+    }
+
+    /// `bytes` with the check byte of the bus.
+    pub fn checked(self, bytes: &[u8]) -> Vec<u8> {
+        match self {
+            Bus::J1850 => check_byte::checked(bytes),
+            Bus::Iso9141 => iso::summed(bytes),
         }
     }
 }

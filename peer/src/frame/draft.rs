@@ -141,6 +141,18 @@ pub fn first_run_of(first_byte: u8, length: usize, random: &mut Random) -> Vec<u
     }
 }
 
+/// One first byte for each pair of H and K, that of ISO 9141-2 first.
+pub const ISO_FIRST_BYTES: [u8; 4] = [0x68, 0x78, 0x61, 0x70];
+
+/// A message of `length` bytes with the right sum; that of one byte is the sum
+/// alone.
+pub fn message_of(first_byte: u8, length: usize, random: &mut Random) -> Vec<u8> {
+    match length {
+        0 => Vec::new(),
+        _ => summed(&starting_with(first_byte, length - 1, random)),
+    }
+}
+
 /// A response of `length` bytes, with a right check byte if its kind has one.
 pub fn response_of(first_byte: u8, length: usize, random: &mut Random) -> Vec<u8> {
     match (response_kind(first_byte), length) {

@@ -1,6 +1,6 @@
 //! The vector files of the frame layer.
 
-use super::{frame_reads, frame_writes, Files, Format};
+use super::{frame_iso_reads, frame_iso_writes, frame_reads, frame_writes, Files, Format};
 use crate::case::{Call, Case};
 use crate::random::Random;
 use crate::text::{hex, hex_answer, hex_field};
@@ -13,6 +13,8 @@ const FILLING: u8 = 0xA5;
 
 const SEED: u64 = 1850;
 
+const CALLS: [Call; 4] = [Call::Read, Call::Write, Call::IsoRead, Call::IsoWrite];
+
 const FORMAT: Format = Format {
     case: case_line,
     expected: expected_line,
@@ -22,11 +24,28 @@ const FORMAT: Format = Format {
 pub fn make() -> (Files, String, Vec<String>) {
     let mut random = Random::new(SEED);
     let mut files = Files::default();
-    files.add_all(&FORMAT, &frame_reads::cases(&mut random));
-    files.add_all(&FORMAT, &frame_writes::cases(&mut random));
-    let (counts, missing) = files.counted(&[Call::Read, Call::Write]);
+    for cases in [
+        frame_reads::cases,
+        frame_writes::cases,
+        frame_iso_reads::cases,
+        frame_iso_writes::cases,
+    ] {
+        files.add_all(&FORMAT, &cases(&mut random));
+    }
+    let (counts, missing) = files.counted(&CALLS);
     let summary = format!("frame: {} cases; {counts}", files.cases());
     (files, summary, missing)
+}
+
+/// Small letters for ISO 9141-2.
+fn letter(call: Call) -> &'static str {
+    match call {
+        Call::Read => "R",
+        Call::Write => "W",
+        Call::IsoRead => "r",
+        Call::IsoWrite => "w",
+        Call::Check | Call::Report | Call::IsoReport => panic!("{} is no frame's", call.name()),
+    }
 }
 
 /// Letter, three fields each after its length, and the lent output's length.
@@ -35,7 +54,7 @@ fn case_line(case: &Case) -> String {
         case.out_length <= BUFFER,
         "lent output is the start of the buffer"
     );
-    let mut line = String::from(if case.call == Call::Read { "R" } else { "W" });
+    let mut line = String::from(letter(case.call));
     let mut fields = case.inputs.clone();
     fields.resize(3, Vec::new());
     for field in fields {
@@ -46,7 +65,7 @@ fn case_line(case: &Case) -> String {
 
 /// The answer, and for a write the whole buffer after the call.
 fn expected_line(case: &Case, answer: u64, written: &[u8]) -> String {
-    if case.call == Call::Read {
+    if !case.call.has_output() {
         return hex_answer(answer) + "\n";
     }
     let mut buffer = [FILLING; BUFFER];

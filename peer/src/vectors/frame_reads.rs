@@ -1,6 +1,7 @@
 //! The reader's cases.
 
 use crate::case::Case;
+use crate::frame::bus::Runs;
 use crate::frame::check_byte::{check_byte, checked, register, PUBLISHED};
 use crate::frame::draft::{first_run_of, response_of, starting_with, Draft, FIRST_BYTES};
 use crate::frame::header::{header_length, kind_of_run, response_kind};
@@ -22,8 +23,6 @@ pub fn cases(random: &mut Random) -> Vec<Case> {
     let runs = groups.into_iter().flatten();
     runs.map(Case::read).collect()
 }
-
-type Runs = (Vec<u8>, Vec<u8>);
 
 /// Each first byte in a sound run, in a damaged one, and before no check byte.
 fn every_first_byte(random: &mut Random) -> Vec<Runs> {
@@ -104,7 +103,8 @@ fn several_faults(random: &mut Random) -> Vec<Runs> {
     list
 }
 
-fn damaged_at_end(run: &[u8]) -> Vec<u8> {
+/// The run with another last byte.
+pub fn damaged_at_end(run: &[u8]) -> Vec<u8> {
     let mut damaged = run.to_vec();
     if let Some(last) = damaged.last_mut() {
         *last ^= 0x01;

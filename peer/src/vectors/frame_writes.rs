@@ -7,7 +7,7 @@ use crate::frame::header::{header_length, response_kind};
 use crate::random::Random;
 
 /// The longest output that can be lent.
-const LONGEST: usize = 32;
+pub const LONGEST: usize = 32;
 
 pub fn cases(random: &mut Random) -> Vec<Case> {
     let groups = [

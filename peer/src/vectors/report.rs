@@ -1,9 +1,10 @@
 //! The vector files of the report.
 
 use super::report_frames::MOST_LENT;
-use super::{report_bench, report_frames, report_items, report_places};
+use super::{report_bench, report_frames, report_iso, report_items, report_places};
 use super::{report_states, report_tables, Files, Format};
 use crate::case::{Call, Case};
+use crate::frame::bus::Bus;
 use crate::random::Random;
 use crate::text::{hex, hex_answer};
 
@@ -23,7 +24,8 @@ const FORMAT: Format = Format {
 /// The files, a line of counts, and the classes of answer without a case. The
 /// bench cases and the easy errors come first, each with its name and the
 /// answer that the papers print, written by hand and not computed; then come
-/// the cases that the rules answer.
+/// the cases that the rules answer: those of J1850, such of them as ISO 9141-2
+/// has too, and its own.
 pub fn make() -> (Files, String, Vec<String>) {
     let mut files = Files::default();
     for bench in report_bench::all() {
@@ -33,6 +35,7 @@ pub fn make() -> (Files, String, Vec<String>) {
     }
     let bench = files.cases();
     let mut random = Random::new(SEED);
+    let mut messages = Vec::new();
     for cases in [
         report_tables::cases,
         report_states::cases,
@@ -40,22 +43,32 @@ pub fn make() -> (Files, String, Vec<String>) {
         report_places::cases,
         report_frames::cases,
     ] {
-        files.add_all(&FORMAT, &cases(&mut random));
+        let cases = cases(&mut random);
+        files.add_all(&FORMAT, &cases);
+        messages.extend(cases.iter().filter_map(report_iso::as_message));
     }
-    let (counts, missing) = files.counted(&[Call::Report]);
+    messages.extend(report_iso::cases(&mut random));
+    files.add_all(&FORMAT, &messages);
+    let (counts, missing) = files.counted(&[Call::Report, Call::IsoReport]);
     let all = files.cases();
     let summary = format!("report: {all} cases, {bench} of them bench cases; {counts}");
     (files, summary, missing)
 }
 
-/// Three runs each after its length, and the lent output's length.
+/// The bus, three runs each after its length, and the lent output's length; the
+/// response of ISO 9141-2 is empty.
 fn case_line(case: &Case) -> String {
     assert!(
         case.out_length <= MOST_LENT,
         "lent output is the start of the buffer"
     );
-    let mut line = String::new();
-    for run in &case.inputs {
+    let mut line = String::from(match case.call.bus() {
+        Bus::J1850 => "J ",
+        Bus::Iso9141 => "I ",
+    });
+    let mut runs = case.inputs.clone();
+    runs.resize(3, Vec::new());
+    for run in &runs {
         line += &format!("{:04X} {} ", run.len(), hex(run));
     }
     line + &format!("{:04X}\n", case.out_length)

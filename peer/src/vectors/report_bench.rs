@@ -1,6 +1,7 @@
 //! The bench cases and the easy errors, with the answers that the papers print:
 //! written by hand, not computed by the rules.
 
+use super::report_iso_bench;
 use crate::case::Case;
 use crate::frame::check_byte::{check_byte, checked};
 use crate::report::scene::own_rows;
@@ -19,7 +20,7 @@ pub struct Bench {
     pub rows: Vec<u8>,
 }
 
-fn accepted(name: &'static str, case: Case, rows: &[&[u8]]) -> Bench {
+pub fn accepted(name: &'static str, case: Case, rows: &[&[u8]]) -> Bench {
     let rows = rows.concat();
     Bench {
         name,
@@ -29,7 +30,7 @@ fn accepted(name: &'static str, case: Case, rows: &[&[u8]]) -> Bench {
     }
 }
 
-fn refused(name: &'static str, case: Case, number: u64) -> Bench {
+pub fn refused(name: &'static str, case: Case, number: u64) -> Bench {
     let rows = Vec::new();
     Bench {
         name,
@@ -46,12 +47,13 @@ pub fn all() -> Vec<Bench> {
         values(),
         frames_refused(),
         easy_errors(),
+        report_iso_bench::all(),
     ];
     groups.into_iter().flatten().collect()
 }
 
 /// The layout of the whole report's frames with other PRNs.
-fn layout(prns: &[u16]) -> Bytes {
+pub fn layout(prns: &[u16]) -> Bytes {
     layout_record(&Layout::of_key([0x08, 0x6B, 1, 0x41]).with_prns(prns))
 }
 
@@ -65,9 +67,9 @@ fn number(value: f64) -> Vec<u8> {
     [&[1], &value.to_be_bytes()[..]].concat()
 }
 
-const FIRST_ITEM: [u8; 9] = [1, 0x40, 0x59, 0x40, 0, 0, 0, 0, 0];
-const SECOND_ITEM: [u8; 9] = [1, 0, 0, 0, 0, 0, 0, 0, 0];
-const CLEAR: [u8; 6] = [9, 0, 10, 0, 11, 1];
+pub const FIRST_ITEM: [u8; 9] = [1, 0x40, 0x59, 0x40, 0, 0, 0, 0, 0];
+pub const SECOND_ITEM: [u8; 9] = [1, 0, 0, 0, 0, 0, 0, 0, 0];
+pub const CLEAR: [u8; 6] = [9, 0, 10, 0, 11, 1];
 /// After an Invalid line.
 const FLAGGED: [u8; 6] = [9, 0, 10, 0, 11, 2];
 

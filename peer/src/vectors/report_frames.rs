@@ -2,12 +2,12 @@
 //! and lent outputs of each length.
 
 use crate::case::Case;
-use crate::frame::check_byte::checked;
+use crate::frame::bus::{Bus, Runs};
 use crate::random::Random;
 use crate::report::line::LONGEST;
 use crate::report::neighbours::near_layouts;
-use crate::report::scene::{frame, Sample, Scene};
-use crate::report::scene_random::scene;
+use crate::report::scene::{frame, own_rows, Sample, Scene};
+use crate::report::scene_random::scene_on;
 use crate::sae::form::UNM;
 use crate::sae::{Prn, PRNS, SLOTS};
 use crate::supplement::draft::{
@@ -24,12 +24,12 @@ pub fn cases(random: &mut Random) -> Vec<Case> {
         first_bytes(random),
         kinds(random),
         near_keys(random),
-        refusals(random),
+        refusals(Bus::J1850, random),
         high_places(random),
         sizes(random),
-        lent(random),
-        lent_longest(random),
-        random_scenes(random),
+        lent(Bus::J1850, 25, random),
+        lent_longest(Bus::J1850, random),
+        random_scenes(Bus::J1850, 350, random),
     ];
     groups.into_iter().flatten().collect()
 }
@@ -87,19 +87,20 @@ fn near_keys(random: &mut Random) -> Vec<Case> {
     list
 }
 
-/// Runs that the reader refuses so, or accepts.
-fn runs(number: u8, random: &mut Random) -> (Vec<u8>, Vec<u8>) {
-    let mut sound = checked(&[0x48, 0x6B, 0x10, 0x41, 0x65, 0x80]);
+/// Runs that the reader of the bus refuses so, or accepts.
+fn runs(bus: Bus, number: u8, random: &mut Random) -> Runs {
+    let mut sound = bus.checked(&[0x48, 0x6B, 0x10, 0x41, 0x65, 0x80]);
     match number {
-        1 => (checked(&random.bytes(12)), Vec::new()),
+        1 => (bus.checked(&random.bytes(12)), Vec::new()),
         2 => (Vec::new(), Vec::new()),
         3 => {
             sound[4] ^= 1;
             (sound, Vec::new())
         }
-        4 => (checked(&[0x05, 0x6B, 0x10]), Vec::new()),
-        5 => (checked(&[0x00, 0x6B, 0x10]), Vec::new()),
-        6 => (checked(&[0x13, 0x41]), vec![7, 7]),
+        4 => (bus.checked(&[0x05, 0x6B, 0x10]), Vec::new()),
+        5 => (bus.checked(&[0x00, 0x6B, 0x10]), Vec::new()),
+        6 => (bus.checked(&[0x13, 0x41]), vec![7, 7]),
+        9 => (bus.checked(&[0x58, 0x6B, 0x10, 0x41]), Vec::new()),
         _ => (sound, Vec::new()),
     }
 }
@@ -122,11 +123,15 @@ fn bench_layout() -> Bytes {
 
 /// Each refusal of the supplement beside each of the frame, with an output
 /// lent and without.
-fn refusals(random: &mut Random) -> Vec<Case> {
+pub fn refusals(bus: Bus, random: &mut Random) -> Vec<Case> {
     let mut list = Vec::new();
-    for of_frame in 0..=6 {
+    let of_frames: &[u8] = match bus {
+        Bus::J1850 => &[0, 1, 2, 3, 4, 5, 6],
+        Bus::Iso9141 => &[0, 1, 2, 3, 9],
+    };
+    for of_frame in of_frames {
         for out_length in [0, 5, LONGEST] {
-            let sound = Case::report(bench_layout(), runs(of_frame, random));
+            let sound = Case::report_on(bus, bench_layout(), runs(bus, *of_frame, random));
             list.push(sound.clone().lent(out_length));
             for number in refusal::UNKNOWN_KIND..=refusal::IN_SAE {
                 let mut case = sound.clone().lent(out_length);
@@ -136,7 +141,7 @@ fn refusals(random: &mut Random) -> Vec<Case> {
         }
     }
     let prn_again = [bench_layout(), prn_record(&PRNS[100])].concat();
-    list.push(Case::report(prn_again, runs(0, random)));
+    list.push(Case::report_on(bus, prn_again, runs(bus, 0, random)));
     list
 }
 
@@ -150,7 +155,8 @@ fn high_places(random: &mut Random) -> Vec<Case> {
             refusal::SEEN_BEFORE => records[0].clone(),
             _ => faulty_record(number),
         });
-        list.push(Case::report(records.concat(), runs(0, random)));
+        let runs = runs(Bus::J1850, 0, random);
+        list.push(Case::report(records.concat(), runs));
     }
     list
 }
@@ -165,7 +171,7 @@ fn sizes(random: &mut Random) -> Vec<Case> {
     let most = records.concat();
     let longer = [&most[..], &[9]].concat();
     let with_runs = |supplement: &[u8], number: u8, random: &mut Random| {
-        Case::report(supplement.to_vec(), runs(number, random))
+        Case::report(supplement.to_vec(), runs(Bus::J1850, number, random))
     };
     vec![
         with_runs(&most, 0, random),
@@ -176,10 +182,10 @@ fn sizes(random: &mut Random) -> Vec<Case> {
 }
 
 /// Reports of many lengths with outputs about their length.
-fn lent(random: &mut Random) -> Vec<Case> {
+pub fn lent(bus: Bus, count: usize, random: &mut Random) -> Vec<Case> {
     let mut list = Vec::new();
-    for _ in 0..25 {
-        let case = scene(random).case();
+    for _ in 0..count {
+        let case = scene_on(bus, random).case();
         let need = case.need().expect("an accepted scene");
         for out_length in [need - 1, need, need + 1, MOST_LENT] {
             list.push(case.clone().lent(out_length));
@@ -189,10 +195,14 @@ fn lent(random: &mut Random) -> Vec<Case> {
 }
 
 /// The longest report with every length lent.
-fn lent_longest(random: &mut Random) -> Vec<Case> {
-    let prn = Prn::new(0x2000, UNM, 4, 1);
-    let items: Vec<Sample> = (0..16).map(|raw| Sample::own(prn, None, raw)).collect();
-    let case = Scene::holding(0x18, &items, random).case();
+pub fn lent_longest(bus: Bus, random: &mut Random) -> Vec<Case> {
+    let (own, slot) = own_rows(0, UNM, 3);
+    let (first_byte, prn, slot) = match bus {
+        Bus::J1850 => (0x18, Prn::new(0x2000, UNM, 4, 1), None),
+        Bus::Iso9141 => (0x48, own, Some(slot)),
+    };
+    let items: Vec<Sample> = (0..16).map(|raw| Sample::own(prn, slot, raw)).collect();
+    let case = Scene::holding(first_byte, &items, random).on(bus).case();
     (0..=MOST_LENT)
         .map(|out_length| case.clone().lent(out_length))
         .collect()
@@ -200,10 +210,10 @@ fn lent_longest(random: &mut Random) -> Vec<Case> {
 
 /// Random scenes, now and then without one of their records or with a bit
 /// turned over.
-fn random_scenes(random: &mut Random) -> Vec<Case> {
+pub fn random_scenes(bus: Bus, count: usize, random: &mut Random) -> Vec<Case> {
     let mut list = Vec::new();
-    while list.len() < 350 {
-        let scene = scene(random);
+    while list.len() < count {
+        let scene = scene_on(bus, random);
         let mut records = scene.records();
         if random.once_in(3) {
             records.remove(random.below(records.len()));
@@ -211,9 +221,9 @@ fn random_scenes(random: &mut Random) -> Vec<Case> {
         if records.len() > 6 {
             continue;
         }
-        let mut case = Case::report(records.concat(), scene.frame.runs());
+        let mut case = scene.case_under(records.concat());
         if random.once_in(6) {
-            let run = random.below(3);
+            let run = random.below(case.inputs.len());
             random.flip_bit(&mut case.inputs[run]);
         }
         list.push(case.lent(random.pick(&[LONGEST, LONGEST, 60, MOST_LENT])));

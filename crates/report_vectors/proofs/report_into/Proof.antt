@@ -7,7 +7,10 @@ use Rattle.report_vectors.proofs.report_into.Statement.{statement}
 use Rattle.report_vectors.proofs.report_into.Tie as tie
 
 slice-aggregate-rakhubole-j1850-report : tie.Need-slice-aggregate-rakhubole-j1850-report
-slice-aggregate-rakhubole-j1850-report c = sym (length-take-le _ _ (omega (arith, c .before .fewer .ensures)))
+slice-aggregate-rakhubole-j1850-report c = sym (length-take-le _ _ (omega (arith, c .before .before .fewer .ensures)))
+
+slice-aggregate-rakhubole-iso9141-report : tie.Need-slice-aggregate-rakhubole-iso9141-report
+slice-aggregate-rakhubole-iso9141-report c = sym (length-take-le _ _ (omega (arith, c .before .before .fewer .ensures)))
 
 pub report-into-spec : {M : Type 1} → statement M
 report-into-spec =
@@ -17,5 +20,10 @@ report-into-spec =
     (λ c. search needs)
     slice-aggregate-rakhubole-j1850-report
     (λ c κs. search needs)
+    (λ c. search needs)
+    slice-aggregate-rakhubole-iso9141-report
+    (λ c κs. search needs)
+    (λ c. search needs)
+    (λ c. search needs)
     (λ c. search needs)
     (λ c. search needs))
