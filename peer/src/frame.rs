@@ -46,6 +46,17 @@ fn without_last(run: &[u8]) -> &[u8] {
     &run[..run.len() - 1]
 }
 
+/// What both writers test last: the length of the result, then the room for it.
+fn test_need(need: usize, out_length: usize) -> Result<(), u8> {
+    if need > MOST_BYTES {
+        return Err(refusal::TOO_LONG);
+    }
+    if out_length < need {
+        return Err(refusal::OUTPUT_SHORT);
+    }
+    Ok(())
+}
+
 /// An accepted answer: low byte 0, the numbers in the bytes above it.
 /// Each fits a byte, because an accepted frame has `MOST_BYTES` at most.
 fn accepted_answer(numbers: &[usize]) -> u64 {

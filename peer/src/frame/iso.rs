@@ -2,7 +2,7 @@
 //! the sum of the bytes before it modulo 256; there is no response.
 
 use super::refusal::*;
-use super::{accepted_answer, read_answer, split_run, Parts, MOST_BYTES};
+use super::{accepted_answer, read_answer, split_run, test_need, Parts, MOST_BYTES};
 
 /// The first byte, target and source.
 pub const HEADER_LENGTH: usize = 3;
@@ -82,12 +82,7 @@ pub fn write(request: &Request) -> Result<Vec<u8>, u8> {
         return Err(FIRST_BYTE);
     }
     let need = LEAST_BYTES.saturating_add(request.data.len());
-    if need > MOST_BYTES {
-        return Err(TOO_LONG);
-    }
-    if request.out_length < need {
-        return Err(OUTPUT_SHORT);
-    }
+    test_need(need, request.out_length)?;
     Ok(summed(&[request.header, request.data].concat()))
 }
 

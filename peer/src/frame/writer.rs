@@ -3,7 +3,7 @@
 use super::check_byte::checked;
 use super::header::{header_length, kind_of_run, response_kind};
 use super::refusal::*;
-use super::{accepted_answer, MOST_BYTES};
+use super::{accepted_answer, test_need};
 
 /// What the writer is given: the parts without check bytes, and the length
 /// of the lent output.
@@ -48,12 +48,7 @@ pub fn write(request: &Request) -> Result<(Vec<u8>, Vec<u8>), u8> {
         return Err(RESPONSE_COUNT);
     }
     let need = result_length(request.header, request.data, request.response);
-    if need > MOST_BYTES {
-        return Err(TOO_LONG);
-    }
-    if request.out_length < need {
-        return Err(OUTPUT_SHORT);
-    }
+    test_need(need, request.out_length)?;
     let first = first_run(request.header, request.data);
     Ok((first, response_run(Some(kind), request.response)))
 }
