@@ -6,6 +6,7 @@ PEER := build/peer/release
 CFLAGS := -std=c99 -O2 -Wall -Wextra -Wpedantic -Werror -Iinclude
 CARGO := CARGO_TARGET_DIR=$(CURDIR)/build/peer RAKHUBOLE_ARCHIVE_DIR=$(CURDIR)/target/staticlib cargo
 RANDOM_FRAMES := 1000000
+RANDOM_MESSAGES := 500000
 RANDOM_SUPPLEMENTS := 300000
 RANDOM_REPORTS := 500000
 RANDOM_PROMISES := 100000
@@ -71,6 +72,7 @@ vectors: peer ## compare the committed vector files with those that the second p
 
 random: peer ## run random cases through the archive, judged by the second program
 	$(PEER)/compare frame $(RANDOM_FRAMES) $(SEED)
+	$(PEER)/compare iso $(RANDOM_MESSAGES) $(SEED)
 	$(PEER)/compare supplement $(RANDOM_SUPPLEMENTS) $(SEED)
 	$(PEER)/compare report $(RANDOM_REPORTS) $(SEED)
 	$(PEER)/compare promise $(RANDOM_PROMISES) $(SEED)

@@ -1,7 +1,9 @@
 //! Comparing the library's archive with the rules, case by case.
 
+mod each;
 pub mod frame;
 mod frame_random;
+mod iso_random;
 mod lent;
 mod long_runs;
 pub mod promise;
@@ -29,29 +31,30 @@ const NULL_RUNS: &str = "NULL runs";
 /// Compares `count` random and damaged supplements.
 pub fn supplements(archive: Archive, count: u64, seed: u64) -> Outcome {
     let case = |random: &mut Random| Case::check(supplement_random::supplement(random));
-    of_call(archive, Call::Check, case, count, seed)
+    of_calls(archive, &[Call::Check], case, count, seed)
 }
 
-/// Compares `count` random pairs of supplement and frame.
+/// Compares `count` random pairs of supplement and frame or message.
 pub fn reports(archive: Archive, count: u64, seed: u64) -> Outcome {
-    of_call(archive, Call::Report, report_random::case, count, seed)
+    let calls = [Call::Report, Call::IsoReport];
+    of_calls(archive, &calls, report_random::case, count, seed)
 }
 
-fn of_call(
+fn of_calls(
     archive: Archive,
-    call: Call,
+    calls: &[Call],
     case: impl Fn(&mut Random) -> Case,
     count: u64,
     seed: u64,
 ) -> Outcome {
     let mut random = Random::new(seed);
-    let mut classes = counts::classes(call);
+    let mut classes: Vec<String> = calls.iter().copied().flat_map(counts::classes).collect();
     classes.push(NULL_RUNS.to_string());
-    let outcome = Outcome::new(call.name(), classes).with_long_runs(archive, &[call]);
+    let outcome = Outcome::new(calls[0].name(), classes).with_long_runs(archive, calls);
     outcome.run(count, |outcome| {
         let case = case(&mut random);
         let answer = case.answer();
-        outcome.counts.count_answer(call, &answer);
+        outcome.counts.count_answer(case.call, &answer);
         outcome.compare(archive, &case, &answer, &mut random);
     })
 }
@@ -167,3 +170,7 @@ fn difference(
 fn both(ours: &str, archive: &str) -> String {
     format!("\n  expected {ours}\n  archive  {archive}")
 }
+
+#[cfg(test)]
+#[path = "compare/compare_tests.rs"]
+mod tests;

@@ -50,14 +50,14 @@ fn class(call: Call, answer: u64) -> String {
     if call.is(Call::Read) || call.is(Call::Write) {
         format!("{} {verdict}", call.name())
     } else {
-        on_bus(call, verdict)
+        on_bus(call.bus(), &verdict)
     }
 }
 
 /// A class of reports; those of ISO 9141-2 are counted by themselves.
-fn on_bus(call: Call, class: String) -> String {
-    match call.bus() {
-        Bus::J1850 => class,
+pub fn on_bus(bus: Bus, class: &str) -> String {
+    match bus {
+        Bus::J1850 => class.to_string(),
         Bus::Iso9141 => format!("ISO {class}"),
     }
 }
@@ -90,7 +90,7 @@ pub fn classes(call: Call) -> Vec<String> {
         let unknown = (1..=8).filter(is_there);
         of_rows.extend(unknown.map(|number| format!("Unknown {number}")));
         of_rows.push(SIXTEEN_ITEMS.to_string());
-        classes.extend(of_rows.into_iter().map(|class| on_bus(call, class)));
+        classes.extend(of_rows.iter().map(|class| on_bus(call.bus(), class)));
     }
     classes
 }
@@ -112,6 +112,6 @@ fn classes_of(call: Call, answer: u64, written: &[u8]) -> Vec<String> {
         let unknown = unknown_number(line);
         of_rows.extend(unknown.map(|number| format!("Unknown {number}")));
     }
-    classes.extend(of_rows.into_iter().map(|class| on_bus(call, class)));
+    classes.extend(of_rows.iter().map(|class| on_bus(call.bus(), class)));
     classes
 }

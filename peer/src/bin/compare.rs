@@ -1,6 +1,7 @@
-//! `compare frame|supplement|report COUNT SEED` compares the archive with the
-//! rules. `compare promise COUNT SEED` tries what reports keep when records are
-//! added to a supplement or taken away.
+//! `compare frame|iso|supplement|report COUNT SEED` compares the archive with
+//! the rules: `frame` reads and writes on J1850, `iso` on ISO 9141-2, a report is
+//! of either. `compare promise COUNT SEED` tries what reports keep when records
+//! are added to a supplement or taken away.
 
 use peer::case::Call;
 use peer::compare::{frame, promise, reports, supplements, Outcome, Run};
@@ -35,6 +36,23 @@ extern "C" {
         out: *mut u8,
         out_len: usize,
     ) -> u64;
+    fn rakhubole_iso9141_read(run: *const u8, run_len: usize) -> u64;
+    fn rakhubole_iso9141_write(
+        header: *const u8,
+        header_len: usize,
+        data: *const u8,
+        data_len: usize,
+        out: *mut u8,
+        out_len: usize,
+    ) -> u64;
+    fn rakhubole_iso9141_report(
+        supplement: *const u8,
+        supplement_len: usize,
+        run: *const u8,
+        run_len: usize,
+        out: *mut u8,
+        out_len: usize,
+    ) -> u64;
 }
 
 fn archive(call: Call, runs: &[Run]) -> u64 {
@@ -48,6 +66,13 @@ fn archive(call: Call, runs: &[Run]) -> u64 {
             (Call::Report, [a, b, c, out]) => {
                 rakhubole_j1850_report(a.0, a.1, b.0, b.1, c.0, c.1, out.0, out.1)
             }
+            (Call::IsoRead, [a]) => rakhubole_iso9141_read(a.0, a.1),
+            (Call::IsoWrite, [a, b, out]) => {
+                rakhubole_iso9141_write(a.0, a.1, b.0, b.1, out.0, out.1)
+            }
+            (Call::IsoReport, [a, b, out]) => {
+                rakhubole_iso9141_report(a.0, a.1, b.0, b.1, out.0, out.1)
+            }
             _ => panic!("{} runs are not those of {}", runs.len(), call.name()),
         }
     }
@@ -58,7 +83,7 @@ fn main() -> ExitCode {
     match outcome(&arguments) {
         Some(outcome) => show(&outcome),
         None => {
-            eprintln!("usage: compare frame|supplement|report|promise COUNT SEED");
+            eprintln!("usage: compare frame|iso|supplement|report|promise COUNT SEED");
             ExitCode::from(2)
         }
     }
@@ -70,6 +95,7 @@ fn outcome(arguments: &[String]) -> Option<Outcome> {
     };
     let run = match layer.as_str() {
         "frame" => frame::run,
+        "iso" => frame::run_iso,
         "supplement" => supplements,
         "report" => reports,
         "promise" => promise::run,

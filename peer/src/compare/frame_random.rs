@@ -1,7 +1,9 @@
-//! Random cases for reader and writer: about half accepted, and every
+//! Random cases for the readers and writers: about half accepted, and every
 //! refusal often.
 
+use super::iso_random;
 use crate::case::Case;
+use crate::frame::bus::{Bus, Runs};
 use crate::frame::check_byte::check_byte;
 use crate::frame::draft::Draft;
 use crate::frame::header::{header_length, response_kind};
@@ -13,52 +15,68 @@ const LONG: usize = 300;
 /// Seldom a run is a little longer than this.
 const VERY_LONG: usize = 65_536;
 
-pub fn case(random: &mut Random) -> Case {
+pub fn case(bus: Bus, random: &mut Random) -> Case {
     if random.once_in(2) {
-        Case::read(runs(random))
+        Case::read_on(bus, runs(bus, random))
     } else {
-        write_case(random)
+        write_case(bus, random)
     }
 }
 
-/// Two runs, mostly a frame.
-pub fn runs(random: &mut Random) -> (Vec<u8>, Vec<u8>) {
-    let mut draft = Draft::random(random);
+/// The runs that the bus has, mostly a frame or message.
+pub fn runs(bus: Bus, random: &mut Random) -> Runs {
+    let mut draft = Draft::random_on(bus, random);
     if random.once_in(4) {
-        spoil_parts(&mut draft, random);
+        spoil_parts(bus, &mut draft, random);
     }
-    let mut runs = draft.runs();
+    let mut runs = draft.runs_on(bus);
     match random.below(20) {
-        0..=5 => spoil_runs(&mut runs, random),
+        0..=5 => spoil_runs(bus, &mut runs, random),
         6 => {
-            spoil_runs(&mut runs, random);
-            spoil_runs(&mut runs, random);
+            spoil_runs(bus, &mut runs, random);
+            spoil_runs(bus, &mut runs, random);
         }
-        7 => runs = (random_run(random), random_run(random)),
+        7 => runs = (random_run(random), random_response(bus, random)),
         _ => {}
     }
     runs
 }
 
-fn write_case(random: &mut Random) -> Case {
-    let mut draft = Draft::random(random);
+fn write_case(bus: Bus, random: &mut Random) -> Case {
+    let mut draft = Draft::random_on(bus, random);
     match random.below(20) {
-        0..=5 => spoil_parts(&mut draft, random),
+        0..=5 => spoil_parts(bus, &mut draft, random),
         6 => {
-            spoil_parts(&mut draft, random);
-            spoil_parts(&mut draft, random);
+            spoil_parts(bus, &mut draft, random);
+            spoil_parts(bus, &mut draft, random);
         }
         7 => {
             draft = Draft {
                 header: random_run(random),
                 data: random_run(random),
-                response: random_run(random),
+                response: random_response(bus, random),
             };
         }
         _ => {}
     }
-    let out_length = out_length(draft.length(), random);
-    Case::write(draft, out_length)
+    let out_length = out_length(draft.length_on(bus), random);
+    Case::write_on(bus, draft, out_length)
+}
+
+/// One fault in the parts.
+fn spoil_parts(bus: Bus, draft: &mut Draft, random: &mut Random) {
+    match bus {
+        Bus::J1850 => spoil_frame_parts(draft, random),
+        Bus::Iso9141 => iso_random::spoil_parts(draft, random),
+    }
+}
+
+/// One fault in the runs.
+pub fn spoil_runs(bus: Bus, runs: &mut Runs, random: &mut Random) {
+    match bus {
+        Bus::J1850 => spoil_frame(runs, random),
+        Bus::Iso9141 => iso_random::spoil_message(&mut runs.0, random),
+    }
 }
 
 /// One in five below the need, the rest at it or above.
@@ -82,8 +100,16 @@ fn random_run(random: &mut Random) -> Vec<u8> {
     random.bytes(length)
 }
 
-/// One fault in the parts: type, count of the response, length or header.
-fn spoil_parts(draft: &mut Draft, random: &mut Random) {
+/// Of random bytes too, on the bus that has one.
+fn random_response(bus: Bus, random: &mut Random) -> Vec<u8> {
+    match bus {
+        Bus::J1850 => random_run(random),
+        Bus::Iso9141 => Vec::new(),
+    }
+}
+
+/// Type, count of the response, length or header.
+fn spoil_frame_parts(draft: &mut Draft, random: &mut Random) {
     match random.below(5) {
         0 => draft.response = few_bytes(random),
         1 => {
@@ -111,7 +137,7 @@ fn unassigned(first_byte: u8, random: &mut Random) -> u8 {
 
 /// Makes the frame a little longer than it may be, or exactly as long, or
 /// now and then much longer.
-fn lengthen(run: &mut Vec<u8>, others: usize, random: &mut Random) {
+pub fn lengthen(run: &mut Vec<u8>, others: usize, random: &mut Random) {
     let length = match random.below(1000) {
         0 => VERY_LONG + random.below(15),
         1..=50 => random.below(LONG + 1),
@@ -121,9 +147,9 @@ fn lengthen(run: &mut Vec<u8>, others: usize, random: &mut Random) {
     run.extend(added);
 }
 
-/// One fault in the runs: a bit, a byte, the place of EOD, the end of a run,
-/// or the response's check byte.
-pub fn spoil_runs(runs: &mut (Vec<u8>, Vec<u8>), random: &mut Random) {
+/// A bit, a byte, the place of EOD, the end of a run, or the response's check
+/// byte.
+fn spoil_frame(runs: &mut Runs, random: &mut Random) {
     match random.below(8) {
         0 => random.flip_bit(&mut runs.0),
         1 => random.flip_bit(&mut runs.1),
@@ -136,14 +162,14 @@ pub fn spoil_runs(runs: &mut (Vec<u8>, Vec<u8>), random: &mut Random) {
     }
 }
 
-fn move_end_of_data(runs: &mut (Vec<u8>, Vec<u8>), random: &mut Random) {
+fn move_end_of_data(runs: &mut Runs, random: &mut Random) {
     let mut whole = [&runs.0[..], &runs.1].concat();
     let response = whole.split_off(random.below(whole.len() + 1));
     *runs = (whole, response);
 }
 
 /// Leaves the header alone, without a check byte.
-fn set_bare_header(runs: &mut (Vec<u8>, Vec<u8>), random: &mut Random) {
+fn set_bare_header(runs: &mut Runs, random: &mut Random) {
     if let Some(first_byte) = runs.0.first() {
         let length = header_length(*first_byte);
         runs.0.resize(length, random.byte());
@@ -151,7 +177,7 @@ fn set_bare_header(runs: &mut (Vec<u8>, Vec<u8>), random: &mut Random) {
 }
 
 /// The check byte of a kind 3 response over what comes before it too.
-fn set_check_over_frame(runs: &mut (Vec<u8>, Vec<u8>), random: &mut Random) {
+fn set_check_over_frame(runs: &mut Runs, random: &mut Random) {
     let (first, response) = (&runs.0, &mut runs.1);
     let is_kind_3 = first
         .first()

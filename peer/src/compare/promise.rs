@@ -3,8 +3,9 @@
 
 use super::promise_random::{self, Pair};
 use super::{call, lend, Archive, Outcome};
-use crate::case::{Call, Case};
-use crate::counts::Counts;
+use crate::case::Case;
+use crate::counts::{on_bus, Counts};
+use crate::frame::bus::Bus;
 use crate::random::Random;
 use crate::report::line::LONGEST;
 use crate::report::promise::broken_sentences;
@@ -36,13 +37,30 @@ const CLASSES: [&str; 18] = [
     "widths and Left, not 0",
 ];
 
-/// Tries `count` random pairs of supplements with a frame.
+/// The counts of the classes of one bus.
+struct Tally<'a> {
+    bus: Bus,
+    counts: &'a mut Counts,
+}
+
+impl Tally<'_> {
+    fn count(&mut self, class: &str) {
+        self.counts.count(&on_bus(self.bus, class));
+    }
+}
+
+/// Tries `count` random pairs of supplements with a frame or message.
 pub fn run(archive: Archive, count: u64, seed: u64) -> Outcome {
     let mut random = Random::new(seed);
-    let outcome = Outcome::new("promise", CLASSES.map(String::from).to_vec());
+    let classes = Bus::BOTH.map(|bus| CLASSES.map(|class| on_bus(bus, class)));
+    let outcome = Outcome::new("promise", classes.concat());
     outcome.run(count, |outcome| {
         let pair = promise_random::pair(&mut random);
-        if let Err(text) = try_pair(archive, &pair, &mut random, &mut outcome.counts) {
+        let mut tally = Tally {
+            bus: pair.bus,
+            counts: &mut outcome.counts,
+        };
+        if let Err(text) = try_pair(archive, &pair, &mut random, &mut tally) {
             outcome.differences.push(format!("{text}\n  {pair}"));
         }
     })
@@ -52,7 +70,7 @@ fn try_pair(
     archive: Archive,
     pair: &Pair,
     random: &mut Random,
-    counts: &mut Counts,
+    tally: &mut Tally,
 ) -> Result<(), String> {
     let fewer = report(archive, &pair.fewer, pair, random)?;
     let more = report(archive, &pair.more, pair, random)?;
@@ -63,9 +81,9 @@ fn try_pair(
     let has_layout = Records::of(&pair.fewer).layout(key).is_some();
     let mut broken = broken_sentences(&fewer_rows, &more_rows, has_layout);
     for (supplement, rows) in [(&pair.fewer, &fewer_rows), (&pair.more, &more_rows)] {
-        broken.extend(try_widths(supplement, pair, rows, counts));
+        broken.extend(try_widths(supplement, pair, rows, tally));
     }
-    count(&fewer_rows, &more_rows, counts);
+    count(&fewer_rows, &more_rows, tally);
     if broken.is_empty() {
         return Ok(());
     }
@@ -74,21 +92,23 @@ fn try_pair(
     Err(format!("{sentences}\n  fewer {fewer}\n  more  {more}"))
 }
 
-/// The rows of an accepted supplement and frame.
+/// The rows of an accepted supplement and frame or message.
 fn report(
     archive: Archive,
     supplement: &[u8],
     pair: &Pair,
     random: &mut Random,
 ) -> Result<Vec<u8>, String> {
-    let case = Case::report(supplement.to_vec(), pair.frame.runs());
+    let runs = pair.frame.runs_on(pair.bus);
+    let case = Case::report_on(pair.bus, supplement.to_vec(), runs);
     let mut lent = lend(&case, random);
-    let answer = call(archive, Call::Report, &mut lent);
+    let answer = call(archive, case.call, &mut lent);
     let length = (answer >> 8) as usize;
     if answer & 0xFF != 0 || length > LONGEST {
         return Err(format!("answer {answer:016X} to an accepted supplement"));
     }
-    Ok(lent[3].held()[..length].to_vec())
+    let out = lent.last().expect("a report has an output");
+    Ok(out.held()[..length].to_vec())
 }
 
 /// Item widths plus Left equal the bits after the selector, if no line is
@@ -97,7 +117,7 @@ fn try_widths(
     supplement: &[u8],
     pair: &Pair,
     rows: &Rows,
-    counts: &mut Counts,
+    tally: &mut Tally,
 ) -> Option<&'static str> {
     let parts = parts_of(&pair.frame);
     let records = Records::of(supplement);
@@ -107,7 +127,7 @@ fn try_widths(
     if lines.iter().any(|line| is_short(line) || is_lost(line)) {
         return None;
     }
-    counts.count("widths and Left");
+    tally.count("widths and Left");
     let widths = layout.used().iter().map(|prn| {
         let row = find_prn(&records, *prn);
         row.map_or(0, |row| usize::from(row.width))
@@ -115,51 +135,51 @@ fn try_widths(
     let bits = 8 * parts.data.len().saturating_sub(1);
     let left = left(rows.remainder);
     if left.is_some_and(|left| left > 0) {
-        counts.count("widths and Left, not 0");
+        tally.count("widths and Left, not 0");
     }
     let is_kept = left.is_some_and(|left| widths.sum::<usize>() + left == bits);
     (!is_kept).then_some("widths and Left equal the bits after the selector")
 }
 
 /// What the fewer records changed.
-fn count(fewer: &Rows, more: &Rows, counts: &mut Counts) {
+fn count(fewer: &Rows, more: &Rows, tally: &mut Tally) {
     if fewer == more {
-        counts.count("same report");
+        tally.count("same report");
     }
     for (fewer, more) in fewer.items.iter().zip(&more.items) {
         match (unknown_number(fewer), unknown_number(more)) {
-            (Some(number), None) => counts.count(&format!("item turned Unknown {number}")),
+            (Some(number), None) => tally.count(&format!("item turned Unknown {number}")),
             (Some(a), Some(b)) if a != b => {
-                counts.count("item of another Unknown number");
+                tally.count("item of another Unknown number");
             }
             _ => {}
         }
     }
     if fewer.items.len() < more.items.len() {
-        counts.count("item lines missing");
+        tally.count("item lines missing");
     }
-    count_remainders(fewer.remainder, more.remainder, counts);
+    count_remainders(fewer.remainder, more.remainder, tally);
     let names = ["", "Clear", "Flagged", "Unknown"];
     let [before, after] = [more, fewer].map(|rows| names[usize::from(rows.verdict)]);
     if before == after {
-        counts.count(&format!("{before} stays"));
+        tally.count(&format!("{before} stays"));
     } else {
-        counts.count(&format!("{before} turned {after}"));
+        tally.count(&format!("{before} turned {after}"));
     }
 }
 
-fn count_remainders(fewer: &[u8], more: &[u8], counts: &mut Counts) {
+fn count_remainders(fewer: &[u8], more: &[u8], tally: &mut Tally) {
     match (unknown_number(fewer), unknown_number(more)) {
-        (Some(8), Some(8)) => counts.count("layout in neither"),
+        (Some(8), Some(8)) => tally.count("layout in neither"),
         (Some(number), other) if other != Some(number) => {
-            counts.count(&format!("remainder turned Unknown {number}"));
+            tally.count(&format!("remainder turned Unknown {number}"));
         }
         _ => {}
     }
     if is_unknown(fewer) && left(more).is_some() {
-        counts.count("Left turned Unknown");
+        tally.count("Left turned Unknown");
     }
     if is_unknown(fewer) && is_short(more) {
-        counts.count("Short turned Unknown");
+        tally.count("Short turned Unknown");
     }
 }

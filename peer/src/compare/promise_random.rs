@@ -1,16 +1,19 @@
 //! Random pairs of accepted supplements, every record of the first standing in
 //! the second, and a frame that both tell of.
 
+use super::report_random::random_bus;
+use crate::frame::bus::Bus;
 use crate::frame::draft::Draft;
 use crate::random::Random;
 use crate::report::neighbours::with_others;
-use crate::report::scene_random::scene;
+use crate::report::scene_random::scene_on;
 use crate::supplement::draft::{shuffle, Bytes};
 use crate::supplement::record::{LAYOUT, PRN, SLOT};
 use crate::text::hex;
 use std::fmt;
 
 pub struct Pair {
+    pub bus: Bus,
     pub fewer: Vec<u8>,
     pub more: Vec<u8>,
     pub frame: Draft,
@@ -19,15 +22,15 @@ pub struct Pair {
 impl fmt::Display for Pair {
     fn fmt(&self, f: &mut fmt::Formatter) -> fmt::Result {
         let (fewer, more) = (hex(&self.fewer), hex(&self.more));
-        let (first, response) = self.frame.runs();
-        write!(f, "fewer [{fewer}] more [{more}] ")?;
+        let (first, response) = self.frame.runs_on(self.bus);
+        write!(f, "{:?} fewer [{fewer}] more [{more}] ", self.bus)?;
         write!(f, "first [{}] response [{}]", hex(&first), hex(&response))
     }
 }
 
 /// Records in any order in both.
 pub fn pair(random: &mut Random) -> Pair {
-    let scene = scene(random);
+    let scene = scene_on(random_bus(random), random);
     let mut records = with_others(&scene, random);
     if random.once_in(8) {
         take_away(&mut records, random);
@@ -36,6 +39,7 @@ pub fn pair(random: &mut Random) -> Pair {
     take_away(&mut records, random);
     shuffle(&mut records, random);
     Pair {
+        bus: scene.bus,
         fewer: records.concat(),
         more,
         frame: scene.frame,

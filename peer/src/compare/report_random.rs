@@ -3,34 +3,44 @@
 
 use super::{frame_random, supplement_random};
 use crate::case::Case;
+use crate::frame::bus::Bus;
 use crate::random::Random;
 use crate::report::line::LONGEST;
 use crate::report::neighbours::with_others;
 use crate::report::scene::Scene;
-use crate::report::scene_random::scene;
+use crate::report::scene_random::scene_on;
 use crate::supplement::draft::{add_distinct, kinds_of_length, shuffle, Bytes, Layouts};
 
 pub fn case(random: &mut Random) -> Case {
-    let scene = scene(random);
+    let bus = random_bus(random);
+    let scene = scene_on(bus, random);
     let mut records = with_others(&scene, random);
-    let mut runs = scene.frame.runs();
+    let mut runs = scene.runs();
     match random.below(40) {
-        0 | 1 => frame_random::spoil_runs(&mut runs, random),
+        0 | 1 => frame_random::spoil_runs(bus, &mut runs, random),
         2 | 3 => supplement_random::spoil(&mut records, random),
         4 => {
-            frame_random::spoil_runs(&mut runs, random);
+            frame_random::spoil_runs(bus, &mut runs, random);
             supplement_random::spoil(&mut records, random);
         }
-        5 => runs = frame_random::runs(random),
+        5 => runs = frame_random::runs(bus, random),
         6 => records = vec![supplement_random::supplement(random)],
         7 => records = with_near_sae(&scene, random),
         8 => add_many(&mut records, random),
         9..=13 => drop_some(&mut records, random),
         _ => {}
     }
-    let case = Case::report(records.concat(), runs);
+    let case = Case::report_on(bus, records.concat(), runs);
     let out_length = out_length(&case, random);
     case.lent(out_length)
+}
+
+/// ISO 9141-2 has fewer kinds of frame: one in three is of it.
+pub fn random_bus(random: &mut Random) -> Bus {
+    match random.once_in(3) {
+        true => Bus::Iso9141,
+        false => Bus::J1850,
+    }
 }
 
 /// The layout alone, and what the SAE tables say of its PRNs.

@@ -25,6 +25,14 @@ impl Draft {
         Draft::random_of(another_type(first_byte, random), random)
     }
 
+    /// An acceptable frame or message.
+    pub fn random_on(bus: Bus, random: &mut Random) -> Draft {
+        match bus {
+            Bus::J1850 => Draft::random(random),
+            Bus::Iso9141 => Draft::random_message(random),
+        }
+    }
+
     /// An acceptable message of ISO 9141-2; one in four has twelve bytes.
     pub fn random_message(random: &mut Random) -> Draft {
         let first_byte = fitting_first_byte(random.byte());
@@ -76,6 +84,14 @@ impl Draft {
     /// The length of both runs together, check bytes included.
     pub fn length(&self) -> usize {
         result_length(&self.header, &self.data, &self.response)
+    }
+
+    /// The length of what the writer of the bus makes of it.
+    pub fn length_on(&self, bus: Bus) -> usize {
+        match bus {
+            Bus::J1850 => self.length(),
+            Bus::Iso9141 => self.header.len() + self.data.len() + 1,
+        }
     }
 
     /// The runs with the check bytes of the bus.

@@ -1,0 +1,152 @@
+//! The rules in place of the archive, right and bent: what is bent is found.
+
+use super::*;
+use crate::frame::iso::is_first_byte_wrong;
+use crate::frame::{check_byte, MOST_BYTES};
+use std::slice;
+
+type Answer = (u64, Vec<u8>);
+
+/// The answer that a bent rule gives, from the inputs and the right one.
+type Bend = fn(Call, &[&[u8]], Answer) -> Answer;
+
+fn right(_: Call, _: &[&[u8]], answer: Answer) -> Answer {
+    answer
+}
+
+fn bytes<'a>(run: &Run) -> &'a [u8] {
+    match run {
+        (_, 0) => &[],
+        (start, length) => unsafe { slice::from_raw_parts(*start, *length) },
+    }
+}
+
+fn bent(bend: Bend) -> impl Fn(Call, &[Run]) -> u64 {
+    move |call, runs| {
+        let inputs = runs.len() - usize::from(call.has_output());
+        let (inputs, out) = runs.split_at(inputs);
+        let inputs: Vec<&[u8]> = inputs.iter().map(bytes).collect();
+        let room = out.first().map_or(0, |out| out.1);
+        let (number, written) = bend(call, &inputs, call.answer(&inputs, room));
+        if let Some((start, _)) = out.first() {
+            unsafe { start.copy_from(written.as_ptr(), written.len()) };
+        }
+        number
+    }
+}
+
+type Mode = fn(Archive, u64, u64) -> Outcome;
+
+fn outcome(mode: Mode, bend: Bend) -> Outcome {
+    mode(&bent(bend), 4000, 1)
+}
+
+fn is_found(mode: Mode, bend: Bend) -> bool {
+    !outcome(mode, bend).differences.is_empty()
+}
+
+fn assert_each_found(bends: &[Bend]) {
+    for (place, bend) in bends.iter().enumerate() {
+        assert!(is_found(frame::run_iso, *bend), "{place}");
+    }
+}
+
+#[test]
+fn the_rules_themselves_do_not_differ() {
+    let modes: [Mode; 4] = [frame::run, frame::run_iso, reports, promise::run];
+    for mode in modes {
+        assert_eq!(outcome(mode, right).differences, [""; 0]);
+    }
+    assert_eq!(outcome(frame::run_iso, right).missing(), [""; 0]);
+}
+
+/// An accepted reading of a message of this length.
+fn accepted(run: &[u8]) -> Answer {
+    (0x0300 | (run.len() as u64 - 4) << 16, Vec::new())
+}
+
+#[test]
+fn bent_readers_of_iso() {
+    let bends: [Bend; 6] = [
+        |call, inputs, answer| match (call, answer.0) {
+            (Call::IsoRead, 9) => accepted(inputs[0]),
+            _ => answer,
+        },
+        |call, inputs, answer| match (call, answer.0) {
+            (Call::IsoRead, 3) if is_first_byte_wrong(inputs[0][0]) => (9, Vec::new()),
+            _ => answer,
+        },
+        |call, inputs, answer| match (call, answer.0) {
+            (Call::IsoRead, 3) if !check_byte::is_wrong(inputs[0]) => accepted(inputs[0]),
+            _ => answer,
+        },
+        |call, inputs, answer| match (call, answer.0) {
+            (Call::IsoRead, 1) if inputs[0].len() == MOST_BYTES + 1 => (3, Vec::new()),
+            _ => answer,
+        },
+        |call, inputs, answer| match (call, answer.0) {
+            (Call::IsoRead, 2) if inputs[0].len() == 3 => (3, Vec::new()),
+            _ => answer,
+        },
+        |call, _, answer| match (call, answer.0) {
+            (Call::IsoRead, number @ 1..=9) => (number | 0x100, Vec::new()),
+            _ => answer,
+        },
+    ];
+    assert_each_found(&bends);
+}
+
+#[test]
+fn bent_writers_of_iso() {
+    let bends: [Bend; 4] = [
+        |call, inputs, answer| match (call, answer.0) {
+            (Call::IsoWrite, 9) if inputs[1].len() > 8 => (1, Vec::new()),
+            _ => answer,
+        },
+        |call, _, (number, mut written)| {
+            if call == Call::IsoWrite && !written.is_empty() {
+                written.push(0x55);
+            }
+            (number, written)
+        },
+        |call, _, answer| match (call, answer.0) {
+            (Call::IsoWrite, 8) => (8, vec![0x55, 0xAA]),
+            _ => answer,
+        },
+        |call, inputs, answer| match (call, &answer.1[..]) {
+            (Call::IsoWrite, [_, ..]) => {
+                let parts = [inputs[0], inputs[1]].concat();
+                (answer.0, check_byte::checked(&parts))
+            }
+            _ => answer,
+        },
+    ];
+    assert_each_found(&bends);
+}
+
+#[test]
+fn bent_reports_of_iso() {
+    // a layout is found by the priority too
+    let by_priority: Bend = |call, inputs, answer| match (call, &answer.1[..]) {
+        (Call::IsoReport, [_, ..]) if inputs[1][0] > 0x1F => call.answer(&[&[], inputs[1]], 150),
+        _ => answer,
+    };
+    assert!(is_found(reports, by_priority));
+    // a large supplement hides what a small one shows
+    let by_size: Bend = |call, inputs, answer| match (call, &answer.1[..]) {
+        (Call::IsoReport, [_, ..]) if inputs[0].len() > 80 => call.answer(&[&[], inputs[1]], 150),
+        _ => answer,
+    };
+    assert!(is_found(promise::run, by_size));
+}
+
+#[test]
+fn a_changed_byte_that_j1850_would_take() {
+    let bend: Bend = |call, inputs, answer| match (call, answer.0, inputs) {
+        (Call::Read, 3, [[0x48, _, _, 0x77], []]) => (0x0300, Vec::new()),
+        _ => answer,
+    };
+    let found = outcome(frame::run, bend).differences;
+    assert!(found.iter().all(|text| text.contains("77] response []")));
+    assert!(!found.is_empty());
+}
