@@ -14,22 +14,32 @@ static bool *option(struct arguments *arguments, const char *name)
     return NULL;
 }
 
-const char *arguments_read(struct arguments *arguments, int count, char **values)
+/* Takes the word behind --bus, NULL if there is none. */
+static struct misuse take_bus(struct arguments *arguments, const char *word)
 {
-    bool are_options = true;
-    *arguments = (struct arguments){false, false, false, 0, values};
-    for (int i = 0; i < count; i++) {
+    if (!word || !*word)
+        return (struct misuse){"the bus is missing behind --bus: ", BUS_WORDS};
+    arguments->bus = bus_find(word);
+    return (struct misuse){arguments->bus ? NULL : "the bus is " BUS_WORDS ", not ", word};
+}
+
+struct misuse arguments_read(struct arguments *arguments, int count, char **values)
+{
+    struct misuse misuse = {NULL, NULL};
+    bool are_options = true, *kept;
+    *arguments = (struct arguments){.operands = values};
+    for (int i = 0; i < count && !misuse.fault; i++) {
         char *value = values[i];
-        if (!are_options || value[0] != '-' || value[1] == '\0') {
+        if (!are_options || value[0] != '-' || value[1] == '\0')
             arguments->operands[arguments->count++] = value;
-        } else if (strcmp(value, "--") == 0) {
+        else if (strcmp(value, "--") == 0)
             are_options = false;
-        } else {
-            bool *kept = option(arguments, value);
-            if (!kept)
-                return value;
+        else if (strcmp(value, "--bus") == 0)
+            misuse = take_bus(arguments, ++i < count ? values[i] : NULL);
+        else if ((kept = option(arguments, value)))
             *kept = true;
-        }
+        else
+            misuse = (struct misuse){"there is no option ", value};
     }
-    return NULL;
+    return misuse;
 }

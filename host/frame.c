@@ -21,7 +21,7 @@ static const char *join(struct runs *runs, const struct arguments *arguments)
         length += more;
         text[length++] = ' ';
     }
-    return runs_read(runs, text, length);
+    return bus_runs_read(arguments->bus, runs, text, length);
 }
 
 static void put_part(const char *name, const uint8_t *bytes, size_t count)
@@ -64,15 +64,13 @@ int command_frame(const struct arguments *arguments)
     struct runs runs;
     const char *fault = join(&runs, arguments);
     if (fault) {
-        complain("this is no frame: %s; give bytes as in 48 6B 10 41 65 80 29, the response "
-                 "behind a slash", fault);
+        complain("this is no frame: %s; give bytes as in %s", fault, arguments->bus->example);
         return STATUS_USAGE;
     }
-    uint64_t answer = rakhubole_j1850_read(runs.first.at, runs.first.count, runs.response.at,
-                                           runs.response.count);
+    uint64_t answer = arguments->bus->read(&runs);
     unsigned refusal = RAKHUBOLE_REFUSAL(answer);
     if (refusal != 0)
-        printf("refused: %s (%u)\n", refusal_words(refusal), refusal);
+        printf("refused: %s (%u)\n", bus_refusal_words(arguments->bus, refusal), refusal);
     else
         put_parts(&runs, answer);
     return refusal != 0 ? STATUS_REFUSED : STATUS_DONE;
@@ -87,24 +85,35 @@ static const char *operand_bytes(struct bytes *bytes, const struct arguments *ar
     return hex_append(bytes, arguments->operands[i], strlen(arguments->operands[i]));
 }
 
-int command_send(const struct arguments *arguments)
+/* STATUS_DONE and the parts of the operands, or a message and STATUS_USAGE. */
+static int read_parts(struct bytes parts[PARTS], const struct arguments *arguments)
 {
-    static const char *const names[] = {"HEADER", "DATA", "RESPONSE"};
-    struct bytes parts[3];
-    for (size_t i = 0; i < 3; i++) {
+    static const char *const names[PARTS] = {"HEADER", "DATA", "RESPONSE"};
+    for (size_t i = 0; i < PARTS; i++) {
         const char *fault = operand_bytes(&parts[i], arguments, i);
         if (fault) {
             complain("%s: %s; give bytes as in \"48 6B 10\" or 486B10, none as -", names[i], fault);
             return STATUS_USAGE;
         }
     }
+    const char *fault = bus_response_fault(arguments->bus, &parts[PART_RESPONSE]);
+    if (!fault)
+        return STATUS_DONE;
+    complain("%s: %s", names[PART_RESPONSE], fault);
+    return STATUS_USAGE;
+}
+
+int command_send(const struct arguments *arguments)
+{
+    struct bytes parts[PARTS];
+    if (read_parts(parts, arguments) != STATUS_DONE)
+        return STATUS_USAGE;
     uint8_t out[FRAME_MOST];
-    uint64_t answer =
-        rakhubole_j1850_write(parts[0].at, parts[0].count, parts[1].at, parts[1].count,
-                              parts[2].at, parts[2].count, out, sizeof out);
+    uint64_t answer = arguments->bus->write(parts, out);
     unsigned refusal = RAKHUBOLE_REFUSAL(answer);
     if (refusal != 0) {
-        complain("nothing to send, refused: %s (%u)", refusal_words(refusal), refusal);
+        complain("nothing to send, refused: %s (%u)", bus_refusal_words(arguments->bus, refusal),
+                 refusal);
         return STATUS_REFUSED;
     }
     size_t first = RAKHUBOLE_WRITE_FIRST(answer);

@@ -1,5 +1,7 @@
 #include "help.h"
 
+#include "bus.h"
+
 #include <string.h>
 
 struct help {
@@ -7,7 +9,7 @@ struct help {
 };
 
 static const struct help helps[] = {
-    {"report", "[--json] [--strict] SUPPLEMENT LOG",
+    {"report", "[--bus BUS] [--json] [--strict] SUPPLEMENT LOG",
      "read a log of frames and show what each one says",
      "Shows for each frame of LOG a table of PRN, name and value, what is left over,\n"
      "the response, and the verdict:\n"
@@ -33,14 +35,14 @@ static const struct help helps[] = {
      "\n"
      "  48 6B 10 41 65 80 29      bytes in hexadecimal, the check byte included\n"
      "  486B1041658029            the same without blanks\n"
-     "  63 1A F1 39 / 12 34 AC    the response behind a slash\n"
+     "  63 1A F1 39 / 12 34 AC    the response behind a slash, on SAE J1850 alone\n"
      "  # comment                 to the end of the line; blank lines are skipped\n"
      "\n"
      "Lines of ELM327-class adapters are understood too. Turn headers on (ATH1), so\n"
      "that header and check byte are there. If the adapter prints the bytes of a\n"
      "response behind the check byte, put the slash in. Prompts (>), carriage\n"
      "returns and zero bytes do no harm. What the adapter says besides frames, such\n"
-     "as OK, NO DATA or SEARCHING..., and commands of up to seven digits behind a\n"
+     "as OK, NO DATA or BUS INIT: ...OK, and commands of up to seven digits behind a\n"
      "prompt, such as >010C, are passed over and named; longer ones would be taken\n"
      "for frames, so turn the echo off (ATE0). What the adapter marks or reports as\n"
      "damaged or lost, as in\n"
@@ -49,20 +51,23 @@ static const struct help helps[] = {
      "\n"
      "is shown and not decoded. Any other line is a fault.\n"
      "\n"
+     "  --bus     the bus of the log: j1850, SAE J1850, which is meant if none is\n"
+     "            said, or iso9141, ISO 9141-2. Layouts serve both.\n"
      "  --strict  exit status 1 unless every frame is Clear and none is damaged\n"
      "  --json    one object a line for each frame, and nothing of it lost: \"line\",\n"
-     "            \"first\" and \"response\" (bytes), \"refusal\" (0 for none) and its\n"
-     "            \"reason\". Of a report also \"layout_sought\" (first byte, target,\n"
-     "            selector present, selector) and the rows: \"items\", \"remainder\",\n"
-     "            \"answer\" and \"verdict\". A row has its \"kind\" and \"word\" and, as\n"
-     "            \"row\", its bytes. A Number has \"value\", the shortest decimal, and\n"
-     "            \"double\", its 64 bits; other rows have \"code\" or \"number\", and\n"
-     "            what is known of it in \"text\" or \"reason\". A State for whose code\n"
-     "            document 003 prints none has \"no_state\" true and, as \"called\",\n"
-     "            what it calls the code, null if it has no row for it. An item has\n"
-     "            \"prn\", \"table\", \"name\", \"slot\" and \"unit\", null where there is\n"
-     "            none. A frame that the adapter marks has the refusal null. What is\n"
-     "            passed over is said on the error output.\n"},
+     "            \"bus\" (the word of --bus), \"first\" and \"response\" (bytes),\n"
+     "            \"refusal\" (0 for none) and its \"reason\". Of a report also\n"
+     "            \"layout_sought\" (first byte, target, selector present, selector)\n"
+     "            and the rows: \"items\", \"remainder\", \"answer\" and \"verdict\". A row\n"
+     "            has its \"kind\" and \"word\" and, as \"row\", its bytes. A Number has\n"
+     "            \"value\", the shortest decimal, and \"double\", its 64 bits; other\n"
+     "            rows have \"code\" or \"number\", and what is known of it in \"text\" or\n"
+     "            \"reason\". A State for whose code document 003 prints none has\n"
+     "            \"no_state\" true and, as \"called\", what it calls the code, null if\n"
+     "            it has no row for it. An item has \"prn\", \"table\", \"name\", \"slot\"\n"
+     "            and \"unit\", null where there is none. A frame that the adapter\n"
+     "            marks has the refusal null. What is passed over is said on the\n"
+     "            error output.\n"},
     {"check", "SUPPLEMENT",
      "test a supplement and say what it holds",
      "Says whether the library accepts the file, and how many bytes, SLOTs by form,\n"
@@ -96,21 +101,25 @@ static const struct help helps[] = {
      "Writes the supplement as text that compile turns into the same bytes, with the\n"
      "names of PRNs as comments; see 'rakhubole help compile'. What the library\n"
      "refuses is not shown: the message says why, and the exit status is 1.\n"},
-    {"frame", "BYTE.. [/ BYTE..]",
+    {"frame", "[--bus BUS] BYTE.. [/ BYTE..]",
      "show the parts of a frame",
      "Shows header, data, check byte and response of a frame, or why the library\n"
-     "refuses it, with exit status 1. The response stands behind a slash.\n"
+     "refuses it, with exit status 1. The response stands behind a slash. BUS is\n"
+     "j1850, which is meant if none is said, or iso9141, which has no response.\n"
      "\n"
      "  rakhubole frame 48 6B 10 41 65 80 29\n"
-     "  rakhubole frame 631AF139 / 1234AC\n"},
-    {"send", "HEADER DATA [RESPONSE]",
+     "  rakhubole frame 631AF139 / 1234AC\n"
+     "  rakhubole frame --bus iso9141 48 6B 10 41 65 80 E9\n"},
+    {"send", "[--bus BUS] HEADER DATA [RESPONSE]",
      "make the bytes of a frame",
      "Writes the bytes to send, check bytes included, the response behind a slash,\n"
      "as report and frame read them; or says why the library refuses the parts, with\n"
-     "exit status 1. The parts are given without check bytes; - or \"\" is none.\n"
+     "exit status 1. The parts are given without check bytes; - or \"\" is none. BUS\n"
+     "is j1850, which is meant if none is said, or iso9141, which has no response.\n"
      "\n"
      "  rakhubole send 486B10 416580\n"
-     "  rakhubole send \"63 1A F1\" - 1234\n"}};
+     "  rakhubole send \"63 1A F1\" - 1234\n"
+     "  rakhubole send --bus iso9141 686AF1 010C\n"}};
 
 enum { HELPS = sizeof helps / sizeof *helps };
 
@@ -130,13 +139,14 @@ const char *help_operands(const char *command)
 
 void put_overview(FILE *file)
 {
-    fputs("Reads SAE J1850 frames and shows what they say, by the SAE tables and a\n"
-          "supplement of records from makers.\n\n", file);
+    fputs("Reads frames of SAE J1850 or ISO 9141-2 and shows what they say, by the SAE\n"
+          "tables and a supplement of records from makers.\n\n", file);
     for (size_t i = 0; i < HELPS; i++)
         fprintf(file, "  rakhubole %s %s\n      %s\n", helps[i].command, helps[i].operands,
                 helps[i].summary);
     fputs("  rakhubole help [COMMAND]\n      say more\n"
           "  rakhubole --version\n      say the version of the library's interface\n\n"
+          "BUS is " BUS_WORDS "; j1850 is meant if none is said.\n"
           "Exit status: 0; 1 if what was given is refused, or with --strict if a frame is\n"
           "not Clear; 2 for wrong arguments and for files that cannot be read or written.\n",
           file);

@@ -149,6 +149,7 @@ static void put_row(const struct row *row, const struct label *label)
 static void put_entry(const struct entry *entry)
 {
     printf("{\"line\":%zu", entry->line);
+    put_text("bus", entry->bus->word);
     put_hex("first", entry->runs.first.at, entry->runs.first.count);
     put_hex("response", entry->runs.response.at, entry->runs.response.count);
 }
@@ -177,7 +178,7 @@ static void json_refused(const struct entry *entry, unsigned refusal)
 {
     put_entry(entry);
     put_count("refusal", refusal);
-    put_text("reason", refusal_words(refusal));
+    put_text("reason", bus_refusal_words(entry->bus, refusal));
     fputs("}\n", stdout);
 }
 

@@ -1,7 +1,6 @@
 #include "log.h"
 
 #include "adapter.h"
-#include "rakhubole.h"
 #include "text.h"
 
 #include <errno.h>
@@ -51,15 +50,13 @@ static bool strip(struct entry *entry)
  * fewer than most frames have, and no frame to the library. */
 static bool is_command(const struct entry *entry)
 {
-    const struct bytes *first = &entry->runs.first;
     size_t digits = 0;
     for (size_t i = 0; i < entry->length; i++)
         if (hex_digit(entry->text[i]) >= 0)
             digits++;
         else if (!is_blank(entry->text[i]))
             return false;
-    return digits <= COMMAND_DIGITS &&
-           RAKHUBOLE_REFUSAL(rakhubole_j1850_read(first->at, first->count, NULL, 0)) != 0;
+    return digits <= COMMAND_DIGITS && !bus_accepts(entry->bus, &entry->runs);
 }
 
 /* What a line is that holds something: a frame, a frame with a mark of the
@@ -68,7 +65,8 @@ static void read_entry(struct entry *entry, bool has_prompt)
 {
     const char *mark = memchr(entry->text, '<', entry->length);
     size_t before = mark ? (size_t)(mark - entry->text) : 0;
-    const char *fault = runs_read(&entry->runs, entry->text, mark ? before : entry->length);
+    const char *fault =
+        bus_runs_read(entry->bus, &entry->runs, entry->text, mark ? before : entry->length);
     const struct saying *saying = adapter_saying(entry->text + before, entry->length - before);
     entry->kind = ENTRY_FAULT;
     entry->words = fault ? fault : "the mark behind the frame is not known";
@@ -100,12 +98,12 @@ static void read_end(struct entry *entry, enum line_answer answer)
     }
 }
 
-void log_next(struct lines *lines, struct entry *entry)
+void log_next(struct lines *lines, const struct bus *bus, struct entry *entry)
 {
     for (;;) {
         enum line_answer answer = lines_next(lines);
         drop_zeros(lines);
-        *entry = (struct entry){.line = lines->number, .text = lines->text,
+        *entry = (struct entry){.bus = bus, .line = lines->number, .text = lines->text,
                                 .length = lines->length};
         if (answer != LINE_READ) {
             read_end(entry, answer);

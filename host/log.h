@@ -2,7 +2,7 @@
 #ifndef LOG_H
 #define LOG_H
 
-#include "hex.h"
+#include "bus.h"
 #include "lines.h"
 
 enum entry_kind {
@@ -16,6 +16,7 @@ enum entry_kind {
 
 struct entry {
     enum entry_kind kind;
+    const struct bus *bus;
     size_t line;
     struct runs runs;  /* of a frame, or of what a damaged line holds */
     const char *words; /* what the line is, but for a frame */
@@ -23,7 +24,7 @@ struct entry {
     size_t length;
 };
 
-/* Reads the next entry; blank lines and comments are none. */
-void log_next(struct lines *lines, struct entry *entry);
+/* Reads the next entry of a log of that bus; blank lines and comments are none. */
+void log_next(struct lines *lines, const struct bus *bus, struct entry *entry);
 
 #endif

@@ -11,13 +11,16 @@ struct command {
     const char *name;
     int (*run)(const struct arguments *arguments);
     size_t least, most; /* operands */
-    bool has_options;
+    bool has_bus, has_options;
 };
 
 static const struct command commands[] = {
-    {"report", command_report, 2, 2, true},     {"check", command_check, 1, 1, false},
-    {"compile", command_compile, 2, 2, false},  {"show", command_show, 1, 1, false},
-    {"frame", command_frame, 1, (size_t)-1, false}, {"send", command_send, 2, 3, false}};
+    {"report", command_report, 2, 2, true, true},
+    {"check", command_check, 1, 1, false, false},
+    {"compile", command_compile, 2, 2, false, false},
+    {"show", command_show, 1, 1, false, false},
+    {"frame", command_frame, 1, (size_t)-1, true, false},
+    {"send", command_send, 2, PARTS, true, false}};
 
 static const struct command *find_command(const char *name)
 {
@@ -37,17 +40,21 @@ static int complain_of_use(const struct command *command, const char *fault, con
 static int run_command(const struct command *command, int count, char **values)
 {
     struct arguments arguments;
-    const char *strange = arguments_read(&arguments, count, values);
-    if (strange)
-        return complain_of_use(command, "there is no option ", strange);
+    struct misuse misuse = arguments_read(&arguments, count, values);
+    if (misuse.fault)
+        return complain_of_use(command, misuse.fault, misuse.what);
     if (arguments.help)
         return put_help(command->name) ? flush_output() : STATUS_USAGE;
     if (!command->has_options && (arguments.json || arguments.strict))
         return complain_of_use(command, "only report takes --json and --strict", "");
+    if (!command->has_bus && arguments.bus)
+        return complain_of_use(command, "only report, frame and send take --bus", "");
     if (arguments.count < command->least)
         return complain_of_use(command, "something is missing", "");
     if (arguments.count > command->most)
         return complain_of_use(command, "too much is given: ", arguments.operands[command->most]);
+    if (!arguments.bus)
+        arguments.bus = &j1850_bus;
     int status = command->run(&arguments);
     if (status != STATUS_USAGE && flush_output() != STATUS_DONE)
         status = STATUS_USAGE;

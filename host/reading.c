@@ -51,11 +51,10 @@ static bool take_rows(struct reading *reading, size_t length)
 }
 
 /* Names the lines by the layout, if it has as many PRNs as there are lines. */
-static void name_lines(struct reading *reading, const struct supplement *supplement,
-                       const struct runs *runs)
+static void name_lines(struct reading *reading, const struct bus *bus,
+                       const struct supplement *supplement, const struct runs *runs)
 {
-    uint64_t answer = rakhubole_j1850_read(runs->first.at, runs->first.count, runs->response.at,
-                                           runs->response.count);
+    uint64_t answer = bus->read(runs);
     size_t header = RAKHUBOLE_READ_HEADER(answer);
     reading->response_length = RAKHUBOLE_READ_RESPONSE(answer);
     reading->layout = layout_sought(supplement, runs->first.at, header, runs->first.at + header,
@@ -65,17 +64,15 @@ static void name_lines(struct reading *reading, const struct supplement *supplem
         reading->labels[i] = label_of(supplement, reading->layout.prns[i]);
 }
 
-int reading_make(struct reading *reading, const struct supplement *supplement,
-                 const struct runs *runs)
+int reading_make(struct reading *reading, const struct bus *bus,
+                 const struct supplement *supplement, const struct runs *runs)
 {
-    uint64_t answer = rakhubole_j1850_report(
-        supplement->bytes, supplement->length, runs->first.at, runs->first.count,
-        runs->response.at, runs->response.count, reading->rows, sizeof reading->rows);
+    uint64_t answer = bus->report(supplement, runs, reading->rows);
     if (RAKHUBOLE_REFUSAL(answer) != 0)
         return (int)RAKHUBOLE_REFUSAL(answer);
     size_t length = RAKHUBOLE_ROWS_LENGTH(answer);
     if (length > sizeof reading->rows || !take_rows(reading, length))
         return -1;
-    name_lines(reading, supplement, runs);
+    name_lines(reading, bus, supplement, runs);
     return 0;
 }

@@ -2,9 +2,8 @@
 #ifndef READING_H
 #define READING_H
 
-#include "hex.h"
+#include "bus.h"
 #include "names.h"
-#include "rakhubole.h"
 
 /* A row: its kind, its body as a number, and its bytes. */
 struct row {
@@ -25,9 +24,10 @@ struct reading {
     size_t response_length; /* without its check byte */
 };
 
-/* Asks the library for the report of a frame under an accepted supplement. The
- * refusal, or 0 and the reading; -1 if the rows are not as the papers say. */
-int reading_make(struct reading *reading, const struct supplement *supplement,
-                 const struct runs *runs);
+/* Asks the library for the report of a frame of the bus under an accepted
+ * supplement. The refusal, or 0 and the reading; -1 if the rows are not as the
+ * papers say. */
+int reading_make(struct reading *reading, const struct bus *bus,
+                 const struct supplement *supplement, const struct runs *runs);
 
 #endif

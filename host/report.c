@@ -12,6 +12,7 @@
 #include <string.h>
 
 struct session {
+    const struct bus *bus;
     const struct output *output;
     const struct supplement *supplement;
     const char *path; /* of the log, as messages name it */
@@ -42,7 +43,7 @@ static void count_verdict(struct tally *tally, unsigned verdict)
 static int show_frame(struct session *session, const struct entry *entry)
 {
     struct reading reading;
-    int refusal = reading_make(&reading, session->supplement, &entry->runs);
+    int refusal = reading_make(&reading, entry->bus, session->supplement, &entry->runs);
     if (refusal < 0) {
         complain("%s line %zu: the rows of the library are not as its papers say", session->path,
                  entry->line);
@@ -91,7 +92,7 @@ static int try_log(const struct session *session, FILE *file)
     struct entry entry;
     lines_start(&lines, file);
     do
-        log_next(&lines, &entry);
+        log_next(&lines, session->bus, &entry);
     while (!is_last(&entry));
     rewind(file);
     return entry.kind == ENTRY_NONE ? STATUS_DONE : complain_of_line(session, &entry);
@@ -107,7 +108,7 @@ static int show_log(struct session *session, FILE *file, unsigned long long size
     lines_start(&lines, file);
     progress_start(&progress, size);
     for (;;) {
-        log_next(&lines, &entry);
+        log_next(&lines, session->bus, &entry);
         if (entry.kind == ENTRY_NONE)
             break;
         progress_step(&progress, entry.line, lines.place);
@@ -139,8 +140,9 @@ int command_report(const struct arguments *arguments)
 {
     const char *path = arguments->operands[1];
     struct supplement supplement;
-    struct session session = {.output = arguments->json ? &json_output : &table_output,
-                              .supplement = &supplement, .path = shown_path(path)};
+    struct session session = {.bus = arguments->bus, .supplement = &supplement,
+                              .output = arguments->json ? &json_output : &table_output,
+                              .path = shown_path(path)};
     if (strcmp(arguments->operands[0], "-") == 0 && strcmp(path, "-") == 0) {
         complain("supplement and log cannot both come from the standard input");
         return STATUS_USAGE;

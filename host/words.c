@@ -13,8 +13,10 @@ const char *refusal_words(unsigned refusal)
     case RAKHUBOLE_TYPE_UNASSIGNED: return "the message type is unassigned";
     case RAKHUBOLE_RESPONSE_COUNT_WRONG: return "the wrong number of response bytes for its type";
     case RAKHUBOLE_RESPONSE_CHECK_BYTE_WRONG: return "the check byte of the response is wrong";
-    case RAKHUBOLE_HEADER_LENGTH_WRONG: return "the header is not as long as its bit H says";
+    case RAKHUBOLE_HEADER_LENGTH_WRONG: return "the header has the wrong length";
     case RAKHUBOLE_OUT_TOO_SHORT: return "the lent output is too short";
+    case RAKHUBOLE_FIRST_BYTE_WRONG:
+        return "the first byte does not belong to this bus: bit H is 1 or bit K is 0";
     case RAKHUBOLE_SUPPLEMENT_TOO_LONG: return "more than 16,384 bytes";
     case RAKHUBOLE_RECORD_KIND_UNKNOWN: return "no such kind of record";
     case RAKHUBOLE_RECORD_CUT: return "cut by the end of the file";

@@ -34,6 +34,18 @@ uint64_t rakhubole_j1850_write(const uint8_t *header, size_t header_length, cons
     return ODD_REFUSAL;
 }
 
+uint64_t rakhubole_iso9141_read(const uint8_t *run, size_t run_length)
+{
+    return rakhubole_j1850_read(run, run_length, NULL, 0);
+}
+
+uint64_t rakhubole_iso9141_write(const uint8_t *header, size_t header_length, const uint8_t *data,
+                                 size_t data_length, uint8_t *out, size_t out_length)
+{
+    return rakhubole_j1850_write(header, header_length, data, data_length, NULL, 0, out,
+                                 out_length);
+}
+
 /* A supplement that starts with EEh is refused, with a place beyond its end. */
 uint64_t rakhubole_supplement_check(const uint8_t *supplement, size_t supplement_length)
 {
@@ -75,4 +87,12 @@ uint64_t rakhubole_j1850_report(const uint8_t *supplement, size_t supplement_len
     const struct odd *odd = &odds[first[3]];
     memcpy(out, odd->rows, odd->length);
     return (uint64_t)odd->claimed << 8;
+}
+
+uint64_t rakhubole_iso9141_report(const uint8_t *supplement, size_t supplement_length,
+                                  const uint8_t *run, size_t run_length, uint8_t *out,
+                                  size_t out_length)
+{
+    return rakhubole_j1850_report(supplement, supplement_length, run, run_length, NULL, 0, out,
+                                  out_length);
 }
