@@ -66,6 +66,11 @@ const struct bus *bus_find(const char *word)
     return strcmp(word, iso9141_bus.word) == 0 ? &iso9141_bus : NULL;
 }
 
+const struct bus *bus_other(const struct bus *bus)
+{
+    return bus == &j1850_bus ? &iso9141_bus : &j1850_bus;
+}
+
 const char *bus_runs_read(const struct bus *bus, struct runs *runs, const char *text,
                           size_t length)
 {

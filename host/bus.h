@@ -31,6 +31,8 @@ extern const struct bus j1850_bus;
 /* The bus of that word, or NULL. */
 const struct bus *bus_find(const char *word);
 
+const struct bus *bus_other(const struct bus *bus);
+
 /* Reads a frame from text. NULL, or what is wrong with the text; both runs are
  * then empty. */
 const char *bus_runs_read(const struct bus *bus, struct runs *runs, const char *text,

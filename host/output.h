@@ -8,6 +8,7 @@
 /* How many lines of a log were what. */
 struct tally {
     size_t clear, flagged, unknown, refused, damaged, passed;
+    size_t of_other_bus; /* refused for the check byte here, accepted there */
 };
 
 struct output {

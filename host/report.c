@@ -51,6 +51,8 @@ static int show_frame(struct session *session, const struct entry *entry)
     }
     if (refusal > 0) {
         session->tally.refused++;
+        session->tally.of_other_bus += refusal == RAKHUBOLE_CHECK_BYTE_WRONG &&
+                                       bus_accepts(bus_other(entry->bus), &entry->runs);
         session->output->refused(entry, (unsigned)refusal);
     } else {
         count_verdict(&session->tally, (unsigned)reading.verdict.body);
@@ -124,15 +126,29 @@ static int show_log(struct session *session, FILE *file, unsigned long long size
     return status;
 }
 
+/* Names the other bus if more than half of the frames speak for it. */
+static void complain_of_bus(const struct session *session, size_t frames)
+{
+    const struct bus *other = bus_other(session->bus);
+    size_t count = session->tally.of_other_bus;
+    if (count > frames - count)
+        complain("%s: %zu of %zu %s a wrong check byte on %s and would be accepted on %s; is this "
+                 "a log of that bus? Try --bus %s", session->path, count, frames,
+                 frames == 1 ? "frame has" : "frames have", session->bus->name, other->name,
+                 other->word);
+}
+
 static int finish(const struct session *session, bool is_strict)
 {
     const struct tally *tally = &session->tally;
-    size_t faults = tally->flagged + tally->unknown + tally->refused + tally->damaged;
-    if (tally->clear + faults == 0) {
+    size_t frames = tally->clear + tally->flagged + tally->unknown + tally->refused;
+    size_t faults = frames - tally->clear + tally->damaged;
+    if (frames + tally->damaged == 0) {
         complain("%s: holds no frame", session->path);
         return STATUS_REFUSED;
     }
     session->output->end(tally);
+    complain_of_bus(session, frames);
     return is_strict && faults > 0 ? STATUS_REFUSED : STATUS_DONE;
 }
 
