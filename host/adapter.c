@@ -15,7 +15,11 @@ static const struct saying sayings[] = {
     {"?", "", false, "the adapter does not know a command"},
     {"AT", NULL, false, "a command to the adapter"},
     {"SEARCHING", ".", false, "the adapter looks for the bus"},
-    {"BUS INIT:", " .OKERR", false, "the adapter starts the bus"},
+    {"BUS INIT", " :.OK", false, "the adapter starts the bus"},
+    {"BUS INIT", " :.OKER", false, "the adapter could not start the bus"},
+    /* no other pair on ISO 9141-2 */
+    {"1:08 2:08", "", false, "the key words with which the bus started"},
+    {"1:94 2:94", "", false, "the key words with which the bus started"},
     {"UNABLE TO CONNECT", "", false, "the adapter finds no bus"},
     {"BUS BUSY", "", false, "the bus was too busy to send"},
     {"FB ERROR", "", false, "what the adapter sent did not come back"},
@@ -25,6 +29,8 @@ static const struct saying sayings[] = {
     {"ACT ALERT", "", false, "the adapter was idle for long"},
     {"ELM3", NULL, false, "the adapter's name"},
     {"SAE J1850", " PVWM", false, "the bus that the adapter uses"},
+    {"ISO 9141-2", "", false, "the bus that the adapter uses"},
+    {"AUTO, ISO 9141-2", "", false, "the bus that the adapter uses"},
     {"AUTO", " ,SAEJ1850PVWM", false, "the bus that the adapter uses"}};
 
 /* Whether the text starts so, and what follows it may follow. */
