@@ -40,6 +40,8 @@ demo: $(TOOL) ## run the host tool on the samples
 	$(TOOL) show samples/van.sup
 	$(TOOL) report samples/van.sup samples/van.log
 	$(TOOL) frame $$($(TOOL) send 631AF1 - 1234)
+	$(TOOL) report --bus iso9141 samples/van.sup samples/iso.log
+	$(TOOL) frame --bus iso9141 $$($(TOOL) send --bus iso9141 686AF1 010C)
 
 test: ## run everything: the checks, then the proofs, the must-fail edits and the programs, from nothing
 	bash .ci/run

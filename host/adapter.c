@@ -17,7 +17,7 @@ static const struct saying sayings[] = {
     {"SEARCHING", ".", false, "the adapter looks for the bus"},
     {"BUS INIT", " :.OK", false, "the adapter starts the bus"},
     {"BUS INIT", " :.OKER", false, "the adapter could not start the bus"},
-    /* no other pair on ISO 9141-2 */
+    /* ISO 9141-2 has no other pairs */
     {"1:08 2:08", "", false, "the key words with which the bus started"},
     {"1:94 2:94", "", false, "the key words with which the bus started"},
     {"UNABLE TO CONNECT", "", false, "the adapter finds no bus"},

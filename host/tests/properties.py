@@ -5,8 +5,9 @@
 
 Random supplements come back from their text byte for byte; the samples show every kind of line;
 JSON loses nothing, and its numbers are as short as can be; each code of a SLOT with codes between
-its states is a printed state, marked as none, or Unknown; a stream is shown as it comes, with
-progress where somebody looks.
+its states is a printed state, marked as none, or Unknown; random frames have the same report on
+both buses; a log under the wrong bus is said to be one exactly if more than half of it is; a stream
+is shown as it comes, with progress where somebody looks.
 """
 import json
 import os
@@ -27,10 +28,13 @@ from c_names import c_names
 FORMAT, NAMES = c_names("host/format.h"), c_names("include/rakhubole.h")
 SUPPLEMENTS = 300
 NUMBERS = 100
+FRAMES = 60
 SEED = 1
 SECONDS = 10
 REFUSALS = set(range(NAMES.RAKHUBOLE_OVER_TWELVE_BYTES,
                      NAMES.RAKHUBOLE_RESPONSE_CHECK_BYTE_WRONG + 1))
+ISO_REFUSALS = {NAMES.RAKHUBOLE_OVER_TWELVE_BYTES, NAMES.RAKHUBOLE_FIRST_RUN_SHORT,
+                NAMES.RAKHUBOLE_CHECK_BYTE_WRONG, NAMES.RAKHUBOLE_FIRST_BYTE_WRONG}
 UNKNOWNS = set(range(NAMES.RAKHUBOLE_UNKNOWN_PRN, NAMES.RAKHUBOLE_UNKNOWN_LAYOUT + 1))
 ROW_KINDS = set(range(NAMES.RAKHUBOLE_ROW_NUMBER, NAMES.RAKHUBOLE_ROW_VERDICT + 1))
 VERDICTS = {NAMES.RAKHUBOLE_CLEAR, NAMES.RAKHUBOLE_FLAGGED, NAMES.RAKHUBOLE_VERDICT_UNKNOWN}
@@ -41,7 +45,9 @@ STATES = {"1808": (6, {0, 1, 2, 4, 8, 0x10, 0x20}),
           "1810": (6, {0, 1, 0x10, *range(0x20, 0x26)}),
           "1806": (8, {0, 1, 2, 4, 8, 0x10, 0x20, 0x40, 0x80}),
           "1047": (8, {1, 2, 4, 8, 0x10})}
+LOGS = {"j1850": "van.log", "iso9141": "iso.log"}
 FRAME = b"48 6B 10 41 65 80 29\n"
+ISO_FRAME = b"48 6B 10 41 65 80 E9\n"
 PAUSE = 0.5
 STEPS = rb"(\r\x1b\[Kline \d+)+\r\x1b\[K"
 
@@ -114,9 +120,9 @@ def test_round_trips(tool, _samples):
         yield f"only {accepted} of {SUPPLEMENTS} supplements are accepted"
 
 
-def objects(tool, supplement, log, **hooks):
-    run = subprocess.run([tool, "report", "--json", supplement, log], stdout=subprocess.PIPE,
-                         stderr=subprocess.DEVNULL, check=True)
+def objects(tool, supplement, log, bus="j1850", **hooks):
+    run = subprocess.run([tool, "report", "--json", "--bus", bus, supplement, log],
+                         stdout=subprocess.PIPE, stderr=subprocess.DEVNULL, check=True)
     return [json.loads(line, **hooks) for line in run.stdout.decode("ascii").splitlines()]
 
 
@@ -128,12 +134,25 @@ def numbers_of(rows, kind):
     return {row["number"] for row in rows if row["kind"] == kind}
 
 
+def refusals_of(reports):
+    return {report["refusal"] for report in reports if report["refusal"]}
+
+
+def all_rows(reports):
+    return [row for report in reports if report["refusal"] == 0 for row in rows_of(report)]
+
+
 def test_samples(tool, samples):
-    """The samples show every refusal of the reader, row kind, Unknown number and verdict."""
-    reports = objects(tool, samples / "van.sup", samples / "van.log")
-    rows = [row for r in reports if r["refusal"] == 0 for row in rows_of(r)]
+    """The samples show every refusal of the reader, row kind, Unknown number and verdict; that of
+    ISO 9141-2 shows its refusals and the verdicts."""
+    reports, iso = (objects(tool, samples / "van.sup", samples / log, bus)
+                    for bus, log in LOGS.items())
+    rows = all_rows(reports)
     for what, wanted, found in (
-            ("refusals", REFUSALS, {r["refusal"] for r in reports if r["refusal"]}),
+            ("refusals", REFUSALS, refusals_of(reports)),
+            ("refusals of ISO 9141-2", ISO_REFUSALS, refusals_of(iso)),
+            ("verdicts on ISO 9141-2", VERDICTS,
+             numbers_of(all_rows(iso), NAMES.RAKHUBOLE_ROW_VERDICT)),
             ("kinds of rows", ROW_KINDS, {r["kind"] for r in rows}),
             ("Unknown numbers", UNKNOWNS, numbers_of(rows, NAMES.RAKHUBOLE_ROW_UNKNOWN)),
             ("response kinds", {0, 1, 2}, numbers_of(rows, NAMES.RAKHUBOLE_ROW_ANSWERED)),
@@ -143,9 +162,13 @@ def test_samples(tool, samples):
 
 
 def test_json(tool, samples):
-    """Each row's fields say what its bytes say, the double to the last bit."""
-    for report in objects(tool, samples / "van.sup", samples / "van.log"):
-        for row in rows_of(report) if report["refusal"] == 0 else ():
+    """Each object names its bus, and each row's fields say what its bytes say, the double to the
+    last bit."""
+    for bus, log in LOGS.items():
+        reports = objects(tool, samples / "van.sup", samples / log, bus)
+        if {report["bus"] for report in reports} != {bus}:
+            yield f"the bus is lost in {log}"
+        for row in all_rows(reports):
             body = bytes.fromhex(row["row"])[1:]
             is_number = row["kind"] == NAMES.RAKHUBOLE_ROW_NUMBER
             if row["row"][:2] != f"{row['kind']:02X}":
@@ -217,6 +240,41 @@ def test_states(tool, _samples):
                     yield f"code {code:02X} of PRN {prn} is not shown as {wanted}: {row}"
 
 
+def test_buses(tool, samples):
+    """A header with data has the same report on both buses, and on ISO 9141-2 the sum."""
+    chance, reports = random.Random(SEED), {}
+    parts = [(f"{chance.choice((0x48, 0x68)):02X}{chance.choice(('6B10', '6AF1'))}",
+              bytes((chance.choice((1, *range(0x41, 0x4B))),)) + chance.randbytes(count % 8))
+             for count in range(FRAMES)]
+    with tempfile.TemporaryDirectory() as name:
+        for bus in LOGS:
+            log = pathlib.Path(name) / bus
+            with open(log, "wb") as file:
+                for header, data in parts:
+                    subprocess.run([tool, "send", "--bus", bus, header, data.hex()], stdout=file,
+                                   check=True)
+            reports[bus] = objects(tool, samples / "van.sup", log, bus)
+    for (header, data), one, other in zip(parts, *reports.values()):
+        message = bytes.fromhex(header) + data
+        if bytes.fromhex(other["first"]) != message + bytes((sum(message) % 256,)):
+            yield f"the frame has not its sum: {other}"
+        if one["refusal"] or other["refusal"] or rows_of(one) != rows_of(other):
+            yield f"the reports of the buses differ: {one}, {other}"
+
+
+def test_wrong_bus(tool, samples):
+    """The other bus is named if more than half of the frames are of it, and only then."""
+    for bus, other, right, wrong in (("j1850", "iso9141", FRAME, ISO_FRAME),
+                                     ("iso9141", "j1850", ISO_FRAME, FRAME)):
+        for count, strange in ((n, k) for n in range(1, 6) for k in range(n + 1)):
+            run = subprocess.run([tool, "report", "--bus", bus, samples / "van.sup", "-"],
+                                 input=right * (count - strange) + wrong * strange,
+                                 stdout=subprocess.DEVNULL, stderr=subprocess.PIPE)
+            said = run.stderr.endswith(f" Try --bus {other}\n".encode())
+            if run.returncode or said != (2 * strange > count) or (run.stderr and not said):
+                yield f"{strange} of {count} frames are not of {bus}: {run.stderr!r}"
+
+
 def test_stream(tool, samples):
     """Each frame is shown before the next one comes."""
     process = subprocess.Popen([tool, "report", samples / "van.sup", "-"], stdin=subprocess.PIPE,
@@ -270,8 +328,8 @@ def test_progress(tool, samples):
             yield f"on a terminal stands {shown!r}, not {wanted!r}"
 
 
-TESTS = (test_round_trips, test_samples, test_json, test_numbers, test_states, test_stream,
-         test_progress)
+TESTS = (test_round_trips, test_samples, test_json, test_numbers, test_states, test_buses,
+         test_wrong_bus, test_stream, test_progress)
 
 
 def main():
@@ -280,7 +338,8 @@ def main():
     for fault in faults:
         print(f"tool-test: {fault}")
     print(f"tool-test: {SUPPLEMENTS} random supplements, {2 * NUMBERS} Numbers, every code of "
-          f"{len(STATES)} SLOTs, every kind of line, JSON, a stream and progress: "
+          f"{len(STATES)} SLOTs, {FRAMES} frames on both buses, every kind of line, JSON, the "
+          "wrong bus, a stream and progress: "
           f"{len(faults)} faults")
     return 1 if faults else 0
 
