@@ -166,7 +166,7 @@ def test_json(tool, samples):
     last bit."""
     for bus, log in LOGS.items():
         reports = objects(tool, samples / "van.sup", samples / log, bus)
-        if {report["bus"] for report in reports} != {bus}:
+        if {report.get("bus") for report in reports} != {bus}:
             yield f"the bus is lost in {log}"
         for row in all_rows(reports):
             body = bytes.fromhex(row["row"])[1:]
