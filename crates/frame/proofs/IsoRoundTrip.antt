@@ -19,7 +19,7 @@ use Rattle.frame.specs.Iso.{isoFrame, isoWriteRules, isoWriteRefusal, wr
 use Rattle.frame.proofs.seal.Laws.{sealed-is}
 use Rattle.frame.proofs.refusal.Laws.{accepted-is, broken}
 use Rattle.frame.proofs.frame.Laws.{run, run-length, run-byte, parts-found, run-again}
-use Rattle.frame.proofs.iso.Laws.{obeys, read-accepts, read-unrefused, first-kept, frame-size}
+use Rattle.frame.proofs.iso.Laws.{obeys, read-accepts, read-unrefused, first-kept}
 use Rattle.frame.proofs.iso.Laws.{IsoWrites, writes, write-accepts, write-unrefused}
 
 -- "A frame is accepted exactly when document 01 says so": some parts are handed over exactly when the rules are obeyed.

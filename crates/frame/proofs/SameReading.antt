@@ -1,18 +1,17 @@
 -- One reading on either bus: header and data are read the same from a message of ISO 9141-2 and from a frame of J1850 without
 -- response, so that everything above the frame is the same.
 use mathlib.Core.Path.{_≡_, refl, sym, ap, _∙_}
-use mathlib.Core.Bool.{false, cond}
-use mathlib.Core.List.{List, [], _++_}
-use Prim.Native.Nat.{ℕ, _+_}
+use mathlib.Core.Bool.{false}
+use mathlib.Core.List.{List, []}
+use Prim.Native.Nat.{ℕ}
 use native.Mathlib.Omega.{arith}
-use lib.Dec.{ltb}
 use lib.ListN.{length}
 use Rattle.frame.specs.declared.response.ResponseKind.{ResponseKind}
 use Rattle.frame.specs.declared.response.ResponseKind.the-variants.{Empty, Single, Several, Data, Unassigned}
 use Rattle.frame.specs.Response.{kindNumber, sent, KindEmpty}
 use Rattle.frame.specs.Header.{headerSize, kindAsked, ThreeByteForm}
-use Rattle.frame.specs.Frame.{Parts, frameSize, MostBytes}
-use Rattle.frame.specs.Refusal.{outcome, firstBroken, TooLong, NoRefusal}
+use Rattle.frame.specs.Frame.{frameSize}
+use Rattle.frame.specs.Refusal.{outcome, firstBroken}
 use Rattle.frame.specs.Reader.{readRefusal, partsOf, readFrame}
 use Rattle.frame.specs.Writer.{frameOf}
 use Rattle.frame.specs.Iso.{wrongFirst, isoReadRefusal, isoParts, readIso, isoFrame}

@@ -1,5 +1,5 @@
--- P1 to P13 of document 01, and the refusals of ISO 9141-2: one computed test over each table. The cases ask what the definitions of the layers compute, so these are
--- opened here, and here alone.
+-- P1 to P13 of document 01, and the refusals of ISO 9141-2: one computed test over each table. The cases ask what the definitions
+-- of the layers compute, so these are opened here, and here alone.
 use mathlib.Core.Path.{_≡_, refl}
 use mathlib.Core.List.{map}
 use lib.Ieee.{ofInt, div}

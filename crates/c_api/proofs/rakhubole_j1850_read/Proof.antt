@@ -11,7 +11,9 @@ use Rattle.c_api.proofs.rakhubole_j1850_read.Tie as tie
 read-word-requires : tie.Need-read-word-requires
 read-word-requires c κs =
     let a = c .before .before .before .args in
-    small-sizes (a .first .now) (a .response .now) (readFrame (a .first .now) (a .response .now)) (handed (a .first .now) (a .response .now)) _ (c .read-frame .ensures)
+    let first = a .first .now in
+    let response = a .response .now in
+    small-sizes first response (readFrame first response) (handed first response) _ (c .read-frame .ensures)
 
 returns : tie.Need-returns
 returns c = c .read-word .ensures ∙ ap readWord (c .before .read-frame .ensures)

@@ -14,7 +14,10 @@ write-word-requires c κs =
     let written = c .before .before in
     let a = written .before .before .before .before .before .before .args in
     let room = length (a .out .now) in
-    small-runs (writeFrame (a .header .now) (a .body .now) (a .response .now) room) room (written-within (a .header .now) (a .body .now) (a .response .now) room) _ (written .write-frame .ensures .0)
+    let h = a .header .now in
+    let d = a .body .now in
+    let r = a .response .now in
+    small-runs (writeFrame h d r room) room (written-within h d r room) _ (written .write-frame .ensures .0)
 
 returns : tie.Need-returns
 returns c =

@@ -1,8 +1,7 @@
 -- A mask of eight ones leaves what is below 256.
-use mathlib.Core.Path.{_≡_}
 use native.Mathlib.Omega.{arith}
-use lib.Bits.{bitAnd, and-mask}
-use Prim.Native.Nat.{_+_, _%_}
+use lib.Bits.{and-mask}
+use Prim.Native.Nat.{_+_}
 use borrow.Author.Needs.{needs}
 use Rattle.frame.proofs.iso.added.Statement.{statement}
 use Rattle.frame.proofs.iso.added.Tie as tie

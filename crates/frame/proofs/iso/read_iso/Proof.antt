@@ -1,6 +1,5 @@
 -- A refusal is handed on; with none, the message obeys the rules and its parts are as long as said.
 use mathlib.Core.Path.{_≡_, sym, ap, _∙_}
-use native.Mathlib.Omega.{arith}
 use borrow.Author.Needs.{needs}
 use Rattle.frame.specs.Refusal.{refused, NoRefusal}
 use Rattle.frame.specs.Frame.{sizes}

@@ -7,7 +7,6 @@ use borrow.Author.Needs.{needs}
 use borrow.Author.Tests.{lt-ltb, le-ltb, eq-eqb, ne-eqb}
 use lib.ListN.{length, drop}
 use lib.Seq.{length-take-le}
-use Rattle.frame.specs.Header.{ThreeByteForm}
 use Rattle.frame.specs.Frame.{MostBytes}
 use Rattle.frame.specs.Refusal.{firstBroken}
 use Rattle.frame.specs.Iso.{sumByte, isoReadRules, isoReadRefusal}

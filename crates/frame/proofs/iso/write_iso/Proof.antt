@@ -10,7 +10,7 @@ use Rattle.frame.specs.Seal.{sealedBy}
 use Rattle.frame.specs.Refusal.{refused, accepted, NoRefusal}
 use Rattle.frame.specs.Frame.{runs, outWritten}
 use Rattle.frame.specs.Iso.{sumByte, isoFrame, isoWriteRefusal}
-use Rattle.frame.proofs.bytes.Placed.{stored, length-placed}
+use Rattle.frame.proofs.bytes.Placed.{stored}
 use Rattle.frame.proofs.seal.Laws.{length-sealed, sealed-behind}
 use Rattle.frame.proofs.iso.Laws.{writes, write-accepts, write-refuses, frame-size}
 use borrow.Author.Needs.{needs}

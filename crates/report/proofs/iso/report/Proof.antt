@@ -13,14 +13,16 @@ reading-report-requires : tie.Need-reading-report-requires
 reading-report-requires c κs =
     let read = c .before in
     let a = read .before .before .before .before .args in
-    sizes-cut (a .run .now) [] (readIso (a .run .now)) (handed (a .run .now)) _ (read .read-iso .ensures)
+    let run = a .run .now in
+    sizes-cut run [] (readIso run) (handed run) _ (read .read-iso .ensures)
 
 returns : tie.Need-returns
 returns c =
     let reported = c .before .before in
     let read = reported .before .before in
     let a = read .before .before .before .before .args in
-    let e = sizes-answer (a .run .now) [] (readIso (a .run .now)) (handed (a .run .now)) (a .supplement .now) (length (a .out .now)) _ (read .read-iso .ensures) in
+    let run = a .run .now in
+    let e = sizes-answer run [] (readIso run) (handed run) (a .supplement .now) (length (a .out .now)) _ (read .read-iso .ensures) in
     let same = settled _ _ (a .out .now) e in
     (reported .reading-report .ensures .0 ∙ same .0, reported .reading-report .ensures .1 ∙ same .1)
 

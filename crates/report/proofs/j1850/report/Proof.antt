@@ -12,14 +12,19 @@ reading-report-requires : tie.Need-reading-report-requires
 reading-report-requires c κs =
     let read = c .before in
     let a = read .before .before .before .before .before .args in
-    sizes-cut (a .first .now) (a .response .now) (readFrame (a .first .now) (a .response .now)) (handed (a .first .now) (a .response .now)) _ (read .read-frame .ensures)
+    let first = a .first .now in
+    let response = a .response .now in
+    sizes-cut first response (readFrame first response) (handed first response) _ (read .read-frame .ensures)
 
 returns : tie.Need-returns
 returns c =
     let reported = c .before .before in
     let read = reported .before .before in
     let a = read .before .before .before .before .before .args in
-    let e = sizes-answer (a .first .now) (a .response .now) (readFrame (a .first .now) (a .response .now)) (handed (a .first .now) (a .response .now)) (a .supplement .now) (length (a .out .now)) _ (read .read-frame .ensures) in
+    let first = a .first .now in
+    let response = a .response .now in
+    let whole = sizes-answer first response (readFrame first response) (handed first response) in
+    let e = whole (a .supplement .now) (length (a .out .now)) _ (read .read-frame .ensures) in
     let same = settled _ _ (a .out .now) e in
     (reported .reading-report .ensures .0 ∙ same .0, reported .reading-report .ensures .1 ∙ same .1)
 
