@@ -5,8 +5,17 @@
 #include <stddef.h>
 #include <stdint.h>
 
-enum call { CALL_READ, CALL_WRITE, CALL_CHECK, CALL_REPORT };
-#define CALLS 4
+/* Those without a bus in their name are of J1850, but for the supplement's. */
+enum call {
+    CALL_READ,
+    CALL_WRITE,
+    CALL_CHECK,
+    CALL_REPORT,
+    CALL_ISO_READ,
+    CALL_ISO_WRITE,
+    CALL_ISO_REPORT
+};
+#define CALLS 7
 
 #define MOST_RUNS 3
 
@@ -23,20 +32,25 @@ struct request {
     size_t out_length;
 };
 
-/* The calls of rakhubole.h by their arguments: two runs, one, or three and the
- * output. */
-typedef uint64_t read_call(const uint8_t *, size_t, const uint8_t *, size_t);
-typedef uint64_t check_call(const uint8_t *, size_t);
-typedef uint64_t output_call(const uint8_t *, size_t, const uint8_t *, size_t, const uint8_t *,
-                             size_t, uint8_t *, size_t);
+/* The calls of rakhubole.h by their arguments: one run or two, and two or three
+ * with the output. */
+typedef uint64_t one_run_call(const uint8_t *, size_t);
+typedef uint64_t two_run_call(const uint8_t *, size_t, const uint8_t *, size_t);
+typedef uint64_t two_run_output_call(const uint8_t *, size_t, const uint8_t *, size_t, uint8_t *,
+                                     size_t);
+typedef uint64_t three_run_output_call(const uint8_t *, size_t, const uint8_t *, size_t,
+                                       const uint8_t *, size_t, uint8_t *, size_t);
 
-/* All four, whoever answers them. */
+/* All of them, whoever answers. */
 struct calls {
     const char *name;
-    read_call *read;
-    output_call *write;
-    check_call *check;
-    output_call *report;
+    two_run_call *read;
+    three_run_output_call *write;
+    one_run_call *check;
+    three_run_output_call *report;
+    one_run_call *iso_read;
+    two_run_output_call *iso_write;
+    two_run_output_call *iso_report;
 };
 
 /* The library, and the decoder written by hand. */

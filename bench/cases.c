@@ -15,9 +15,13 @@ struct supplement {
 
 static uint8_t output[RAKHUBOLE_ROWS_MOST];
 
-/* Header 48 6B 10, selector 41; the check bytes are put when the cases are made. */
-static uint8_t short_frame[7] = {0x48, 0x6B, 0x10, 0x41, 0x65, 0x80};
-static uint8_t full_frame[FRAME_MOST] = {0x48, 0x6B, 0x10, 0x41, 1, 2, 3, 4, 5, 6, 7};
+/* Header 48 6B 10, selector 41; the check bytes are put when the cases are made.
+ * The first byte has H = 0 and K = 1, as ISO 9141-2 asks, so that the messages
+ * differ from the frames in the check byte alone. */
+#define TWO_ITEMS {0x48, 0x6B, 0x10, 0x41, 0x65, 0x80}
+#define SEVEN_ITEMS {0x48, 0x6B, 0x10, 0x41, 1, 2, 3, 4, 5, 6, 7}
+static uint8_t short_frame[7] = TWO_ITEMS, short_message[7] = TWO_ITEMS;
+static uint8_t full_frame[FRAME_MOST] = SEVEN_ITEMS, full_message[FRAME_MOST] = SEVEN_ITEMS;
 
 static void put(struct supplement *supplement, uint32_t number, size_t bytes)
 {
@@ -110,17 +114,32 @@ static struct run slot_records(struct supplement *supplement, size_t count)
     return (struct run){supplement->bytes, supplement->length};
 }
 
-/* Puts the check byte of a frame by writing its parts. */
-static struct run sealed(uint8_t *frame, size_t length)
+static struct request with_output(enum call call, struct run one, struct run other)
 {
-    rakhubole_j1850_write(frame, 3, frame + 3, length - 4, NULL, 0, output, sizeof output);
-    frame[length - 1] = output[length - 1];
-    return (struct run){frame, length};
+    return (struct request){call, {one, other, {NULL, 0}}, output, sizeof output};
 }
 
 static struct request report(struct run supplement, struct run first)
 {
-    return (struct request){CALL_REPORT, {supplement, first, {NULL, 0}}, output, sizeof output};
+    return with_output(CALL_REPORT, supplement, first);
+}
+
+/* The parts of a frame or message to be written: all but its check byte. The
+ * header is of three bytes on both buses. */
+static struct request writing(enum call call, const uint8_t *frame, size_t length)
+{
+    struct run header = {frame, MESSAGE_HEADER};
+    struct run data = {frame + MESSAGE_HEADER, length - MESSAGE_LEAST};
+    return with_output(call, header, data);
+}
+
+/* Puts the check byte of a frame or message by writing its parts. */
+static struct run sealed(enum call write, uint8_t *frame, size_t length)
+{
+    struct request request = writing(write, frame, length);
+    answer_of(&archive_calls, &request);
+    frame[length - 1] = output[length - 1];
+    return (struct run){frame, length};
 }
 
 const struct bench_case *bench_cases(void)
@@ -129,16 +148,21 @@ const struct bench_case *bench_cases(void)
     static struct bench_case cases[CASE_COUNT];
     if (cases[0].name)
         return cases;
-    struct run two_items = sealed(short_frame, sizeof short_frame);
-    struct run seven_items = sealed(full_frame, sizeof full_frame);
-    struct run header = {full_frame, 3}, data = {full_frame + 3, 8}, none = {NULL, 0};
+    struct run two_items = sealed(CALL_WRITE, short_frame, sizeof short_frame);
+    struct run seven_items = sealed(CALL_WRITE, full_frame, sizeof full_frame);
+    struct run iso_two_items = sealed(CALL_ISO_WRITE, short_message, sizeof short_message);
+    struct run iso_seven_items = sealed(CALL_ISO_WRITE, full_message, sizeof full_message);
+    struct run layout = one_layout();
     const struct bench_case made[CASE_COUNT] = {
-        {"report, one layout", report(one_layout(), two_items), 1.0},
+        {"report, one layout", report(layout, two_items), 1.0},
         {"report, 100 PRN records", report(prn_records(&small, 100), seven_items), 1.0},
         {"report, 2,300 PRN records", report(prn_records(&full_of_prns, 2300), seven_items), 0.1},
         {"report, 770 SLOT records", report(slot_records(&full_of_slots, 770), seven_items), 0.1},
-        {"read", {CALL_READ, {seven_items, none, none}, NULL, 0}, 0},
-        {"write", {CALL_WRITE, {header, data, none}, output, sizeof output}, 0},
+        {"read", {.call = CALL_READ, .in = {seven_items}}, 0},
+        {"write", writing(CALL_WRITE, full_frame, sizeof full_frame), 0},
+        {"ISO report, one layout", with_output(CALL_ISO_REPORT, layout, iso_two_items), 1.0},
+        {"ISO read", {.call = CALL_ISO_READ, .in = {iso_seven_items}}, 0},
+        {"ISO write", writing(CALL_ISO_WRITE, full_message, sizeof full_message), 0},
     };
     memcpy(cases, made, sizeof made);
     return cases;

@@ -4,7 +4,7 @@
 
 #include "calls.h"
 
-#define CASE_COUNT 6
+#define CASE_COUNT 9
 
 struct bench_case {
     const char *name;

@@ -45,6 +45,14 @@ static bool response_count_fits(unsigned kind, size_t length, size_t checks)
     }
 }
 
+void split_run(const uint8_t *run, size_t length, size_t header_length, struct frame *frame)
+{
+    frame->header = run;
+    frame->header_length = header_length;
+    frame->data = run + header_length;
+    frame->data_length = length - header_length - 1;
+}
+
 unsigned read_frame(const uint8_t *first, size_t first_length, const uint8_t *response,
                     size_t response_length, struct frame *frame)
 {
@@ -61,13 +69,18 @@ unsigned read_frame(const uint8_t *first, size_t first_length, const uint8_t *re
         return RAKHUBOLE_RESPONSE_COUNT_WRONG;
     if (kind == 3 && !ends_in_check_byte(response, response_length))
         return RAKHUBOLE_RESPONSE_CHECK_BYTE_WRONG;
-    frame->header = first;
-    frame->header_length = header_length_of(first[0]);
-    frame->data = first + frame->header_length;
-    frame->data_length = first_length - frame->header_length - 1;
+    split_run(first, first_length, header_length_of(first[0]), frame);
     frame->kind = kind;
     frame->response_length = kind == 3 ? response_length - 1 : response_length;
     return 0;
+}
+
+uint64_t read_answer(unsigned refusal, const struct frame *frame)
+{
+    if (refusal)
+        return refusal;
+    return (uint64_t)frame->header_length << 8 | (uint64_t)frame->data_length << 16 |
+           (uint64_t)frame->kind << 24 | (uint64_t)frame->response_length << 32;
 }
 
 uint64_t decoder_read(const uint8_t *first, size_t first_length, const uint8_t *response,
@@ -75,14 +88,10 @@ uint64_t decoder_read(const uint8_t *first, size_t first_length, const uint8_t *
 {
     struct frame frame;
     unsigned refusal = read_frame(first, first_length, response, response_length, &frame);
-    if (refusal)
-        return refusal;
-    return (uint64_t)frame.header_length << 8 | (uint64_t)frame.data_length << 16 |
-           (uint64_t)frame.kind << 24 | (uint64_t)frame.response_length << 32;
+    return read_answer(refusal, &frame);
 }
 
-/* Copies a run, which may be empty, and answers the place behind it. */
-static uint8_t *put_run(uint8_t *out, const uint8_t *run, size_t length)
+uint8_t *copy_run(uint8_t *out, const uint8_t *run, size_t length)
 {
     if (length)
         memcpy(out, run, length);
@@ -115,9 +124,9 @@ uint64_t decoder_write(const uint8_t *header, size_t header_length, const uint8_
         return RAKHUBOLE_OVER_TWELVE_BYTES;
     if (out_length < length)
         return RAKHUBOLE_OUT_TOO_SHORT;
-    uint8_t *end = put_run(put_run(out, header, header_length), data, data_length);
+    uint8_t *end = copy_run(copy_run(out, header, header_length), data, data_length);
     *end = check_byte(out, header_length + data_length);
-    end = put_run(end + 1, response, response_length);
+    end = copy_run(end + 1, response, response_length);
     if (kind == 3)
         *end = check_byte(response, response_length);
     size_t first_length = header_length + data_length + 1;

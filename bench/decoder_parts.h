@@ -9,6 +9,7 @@
 #include <stddef.h>
 #include <stdint.h>
 
+/* The parts of a frame or message. */
 struct frame {
     const uint8_t *header;
     const uint8_t *data;
@@ -18,9 +19,19 @@ struct frame {
     unsigned kind;
 };
 
-/* The refusal, or 0 and the frame's parts. */
+/* The refusal, or 0 and the parts; of a frame, and of a message of ISO 9141-2. */
 unsigned read_frame(const uint8_t *first, size_t first_length, const uint8_t *response,
                     size_t response_length, struct frame *frame);
+unsigned read_message(const uint8_t *run, size_t run_length, struct frame *message);
+
+/* Sets header and data of a first run, whose last byte is its check byte. */
+void split_run(const uint8_t *run, size_t length, size_t header_length, struct frame *frame);
+
+/* What a reader answers. */
+uint64_t read_answer(unsigned refusal, const struct frame *frame);
+
+/* Copies a run, which may be empty, and answers the place behind it. */
+uint8_t *copy_run(uint8_t *out, const uint8_t *run, size_t length);
 
 static inline uint16_t number_16(const uint8_t *bytes)
 {

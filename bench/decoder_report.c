@@ -188,26 +188,43 @@ static void make_report(struct report *report, const struct frame *frame)
     put_row(report, RAKHUBOLE_ROW_VERDICT, verdict, OTHER_BODY);
 }
 
-uint64_t decoder_report(const uint8_t *supplement, size_t supplement_length, const uint8_t *first,
-                        size_t first_length, const uint8_t *response, size_t response_length,
-                        uint8_t *out, size_t out_length)
+/* The answer for an accepted supplement and the parts of an accepted frame or
+ * message. */
+static uint64_t report_parts(const struct supplement *supplement, const struct frame *frame,
+                             uint8_t *out, size_t out_length)
 {
-    uint64_t answer = decoder_check(supplement, supplement_length);
-    if (answer)
-        return answer;
-    struct frame frame;
-    unsigned refusal = read_frame(first, first_length, response, response_length, &frame);
-    if (refusal)
-        return refusal;
-    struct supplement records = {supplement, supplement_length};
-    struct report report = {.supplement = &records};
-    if (frame.data_length > 0) {
-        report.data = frame.data + 1;
-        report.bits = 8 * (frame.data_length - 1);
+    struct report report = {.supplement = supplement};
+    if (frame->data_length > 0) {
+        report.data = frame->data + 1;
+        report.bits = 8 * (frame->data_length - 1);
     }
-    make_report(&report, &frame);
+    make_report(&report, frame);
     if (out_length < report.length)
         return RAKHUBOLE_OUT_TOO_SHORT;
     memcpy(out, report.rows, report.length);
     return (uint64_t)report.length << 8;
+}
+
+uint64_t decoder_report(const uint8_t *supplement, size_t supplement_length, const uint8_t *first,
+                        size_t first_length, const uint8_t *response, size_t response_length,
+                        uint8_t *out, size_t out_length)
+{
+    struct supplement records = {supplement, supplement_length};
+    struct frame frame;
+    uint64_t refusal = decoder_check(supplement, supplement_length);
+    if (!refusal)
+        refusal = read_frame(first, first_length, response, response_length, &frame);
+    return refusal ? refusal : report_parts(&records, &frame, out, out_length);
+}
+
+uint64_t decoder_iso_report(const uint8_t *supplement, size_t supplement_length,
+                            const uint8_t *run, size_t run_length, uint8_t *out,
+                            size_t out_length)
+{
+    struct supplement records = {supplement, supplement_length};
+    struct frame message;
+    uint64_t refusal = decoder_check(supplement, supplement_length);
+    if (!refusal)
+        refusal = read_message(run, run_length, &message);
+    return refusal ? refusal : report_parts(&records, &message, out, out_length);
 }

@@ -17,6 +17,7 @@ printf '\nInstructions of a call, counted by callgrind:\n\n%-28s %12s %12s %8s\n
 "$bench" list | while read -r number call name; do
     case $call in
         read | write | report) exported=rakhubole_j1850_$call ;;
+        iso_*) exported=rakhubole_iso9141_${call#iso_} ;;
         check) exported=rakhubole_supplement_check ;;
     esac
     archive=$(instructions "$number" archive "$exported")

@@ -48,30 +48,39 @@ static size_t deepest(const struct calls *calls, const struct request *request)
     return one > other ? one : other;
 }
 
-static uint64_t empty_read(const uint8_t *a, size_t a_length, const uint8_t *b, size_t b_length)
+static uint64_t empty_one(const uint8_t *a, size_t a_length)
+{
+    (void)a, (void)a_length;
+    return 0;
+}
+
+static uint64_t empty_two(const uint8_t *a, size_t a_length, const uint8_t *b, size_t b_length)
 {
     (void)a, (void)a_length, (void)b, (void)b_length;
     return 0;
 }
 
-static uint64_t empty_write(const uint8_t *a, size_t a_length, const uint8_t *b, size_t b_length,
-                            const uint8_t *c, size_t c_length, uint8_t *out, size_t out_length)
+static uint64_t empty_two_output(const uint8_t *a, size_t a_length, const uint8_t *b,
+                                 size_t b_length, uint8_t *out, size_t out_length)
+{
+    (void)a, (void)a_length, (void)b, (void)b_length, (void)out, (void)out_length;
+    return 0;
+}
+
+static uint64_t empty_three_output(const uint8_t *a, size_t a_length, const uint8_t *b,
+                                   size_t b_length, const uint8_t *c, size_t c_length,
+                                   uint8_t *out, size_t out_length)
 {
     (void)a, (void)a_length, (void)b, (void)b_length;
     (void)c, (void)c_length, (void)out, (void)out_length;
     return 0;
 }
 
-static uint64_t empty_check(const uint8_t *a, size_t a_length)
-{
-    (void)a, (void)a_length;
-    return 0;
-}
-
 size_t stack_depth(const struct calls *calls, const struct request *request)
 {
     static const struct calls empty_calls = {
-        "empty", empty_read, empty_write, empty_check, empty_write,
+        "empty", empty_two, empty_three_output, empty_one, empty_three_output,
+        empty_one, empty_two_output, empty_two_output,
     };
     return deepest(calls, request) - deepest(&empty_calls, request);
 }

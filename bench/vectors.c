@@ -29,10 +29,23 @@ static void take_run(struct request *request, size_t i, const char *text, size_t
     request->in[i] = (struct run){runs[i], length};
 }
 
-/* A call, R or W, then three runs of fixed columns and the length lent. */
+/* Of a letter in front of a line: R and W are J1850's, r and w are those of
+ * ISO 9141-2. */
+static enum call frame_call(char letter)
+{
+    switch (letter) {
+    case 'R': return CALL_READ;
+    case 'W': return CALL_WRITE;
+    case 'r': return CALL_ISO_READ;
+    default: return CALL_ISO_WRITE;
+    }
+}
+
+/* A call, then three runs of fixed columns and the length lent; a run that the
+ * call does not have is empty. */
 static void frame_case(const char *line, struct request *request)
 {
-    request->call = line[0] == 'R' ? CALL_READ : CALL_WRITE;
+    request->call = frame_call(line[0]);
     for (size_t i = 0; i < MOST_RUNS; i++)
         take_run(request, i, line + 5 + 36 * i, number_at(line + 2 + 36 * i, 2));
     request->out_length = number_at(line + 110, 2);
@@ -44,10 +57,12 @@ static void supplement_case(const char *line, struct request *request)
     take_run(request, 0, line + 5, number_at(line, 4));
 }
 
-/* Three runs, each behind its length, and the length lent. */
+/* The bus, J or I, then three runs, each behind its length, and the length
+ * lent; on ISO 9141-2 the third is empty. */
 static void report_case(const char *line, struct request *request)
 {
-    request->call = CALL_REPORT;
+    request->call = line[0] == 'J' ? CALL_REPORT : CALL_ISO_REPORT;
+    line += 2;
     for (size_t i = 0; i < MOST_RUNS; i++) {
         size_t length = number_at(line, 4);
         take_run(request, i, line + 5, length);

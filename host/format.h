@@ -8,6 +8,10 @@
 enum { FRAME_MOST = 12 };
 enum { PRIORITY_BITS = 0xE0, BIT_H = 0x10, BIT_K = 0x08, TYPE_BITS = 0x0F };
 
+/* A message of ISO 9141-2: its header, and its bytes at least, the check byte
+ * counted. */
+enum { MESSAGE_HEADER = 3, MESSAGE_LEAST = 4 };
+
 /* Forms of PRN rows and SLOTs, and the widths that these may have. */
 enum {
     FORM_UNM = 1,
