@@ -20,6 +20,16 @@ size_t runs_of(enum call call)
     return runs[call];
 }
 
+bool is_write(enum call call)
+{
+    return call == CALL_WRITE || call == CALL_ISO_WRITE;
+}
+
+bool is_report(enum call call)
+{
+    return call == CALL_REPORT || call == CALL_ISO_REPORT;
+}
+
 uint64_t answer_of(const struct calls *calls, const struct request *request)
 {
     const struct run *a = &request->in[0], *b = &request->in[1], *c = &request->in[2];

@@ -2,6 +2,7 @@
 #ifndef CALLS_H
 #define CALLS_H
 
+#include <stdbool.h>
 #include <stddef.h>
 #include <stdint.h>
 
@@ -61,6 +62,10 @@ extern const char *const call_names[];
 
 /* How many input runs a call has. */
 size_t runs_of(enum call call);
+
+/* On either bus. */
+bool is_write(enum call call);
+bool is_report(enum call call);
 
 uint64_t answer_of(const struct calls *calls, const struct request *request);
 

@@ -1,34 +1,55 @@
 #include "classes.h"
 
+#include "draft.h"
 #include "format.h"
 #include "rakhubole.h"
 
 #include <stdio.h>
 
-enum word { REFUSED, KIND, VERDICT, ROW, UNKNOWN, WORDS };
-static const char *const words[WORDS] = {"refused", "kind", "verdict", "row", "Unknown"};
+enum word { REFUSED, SUM_BEFORE, KIND, VERDICT, ROW, UNKNOWN, WORDS };
+static const char *const words[WORDS] = {
+    "refused", "3 before", "kind", "verdict", "row", "Unknown",
+};
 
 /* Every refusal, kind and reason is below this. */
 #define NUMBERS 16
 /* A bit for each number from one to the other. */
 #define SPAN(low, high) ((2u << (high)) - (1u << (low)))
+#define ONE(number) (1u << (number))
 #define FRAME_REFUSALS SPAN(RAKHUBOLE_OVER_TWELVE_BYTES, RAKHUBOLE_RESPONSE_CHECK_BYTE_WRONG)
 #define WRITE_REFUSALS                                                                           \
-    (1u << RAKHUBOLE_OVER_TWELVE_BYTES |                                                         \
+    (ONE(RAKHUBOLE_OVER_TWELVE_BYTES) |                                                          \
      SPAN(RAKHUBOLE_TYPE_UNASSIGNED, RAKHUBOLE_RESPONSE_COUNT_WRONG) |                           \
      SPAN(RAKHUBOLE_HEADER_LENGTH_WRONG, RAKHUBOLE_OUT_TOO_SHORT))
+#define MESSAGE_REFUSALS                                                                         \
+    (SPAN(RAKHUBOLE_OVER_TWELVE_BYTES, RAKHUBOLE_CHECK_BYTE_WRONG) |                             \
+     ONE(RAKHUBOLE_FIRST_BYTE_WRONG))
+#define MESSAGE_WRITE_REFUSALS                                                                   \
+    (ONE(RAKHUBOLE_OVER_TWELVE_BYTES) |                                                          \
+     SPAN(RAKHUBOLE_HEADER_LENGTH_WRONG, RAKHUBOLE_FIRST_BYTE_WRONG))
 #define SUPPLEMENT_REFUSALS SPAN(RAKHUBOLE_SUPPLEMENT_TOO_LONG, RAKHUBOLE_KEY_IN_SAE)
+#define REPORT_REFUSALS (SUPPLEMENT_REFUSALS | ONE(RAKHUBOLE_OUT_TOO_SHORT))
+#define VERDICTS SPAN(RAKHUBOLE_CLEAR, RAKHUBOLE_VERDICT_UNKNOWN)
+#define ROWS SPAN(RAKHUBOLE_ROW_NUMBER, RAKHUBOLE_ROW_ANSWERED)
+#define UNKNOWNS SPAN(RAKHUBOLE_UNKNOWN_PRN, RAKHUBOLE_UNKNOWN_LAYOUT)
 
 /* The numbers that the inputs of a call must reach. */
 static const uint16_t wanted[][WORDS] = {
     [CALL_READ] = {[REFUSED] = FRAME_REFUSALS, [KIND] = SPAN(0, 3)},
     [CALL_WRITE] = {[REFUSED] = WRITE_REFUSALS},
     [CALL_CHECK] = {[REFUSED] = SUPPLEMENT_REFUSALS},
-    [CALL_REPORT] = {[REFUSED] = FRAME_REFUSALS | 1u << RAKHUBOLE_OUT_TOO_SHORT |
-                                 SUPPLEMENT_REFUSALS,
-                     [VERDICT] = SPAN(RAKHUBOLE_CLEAR, RAKHUBOLE_VERDICT_UNKNOWN),
-                     [ROW] = SPAN(RAKHUBOLE_ROW_NUMBER, RAKHUBOLE_ROW_ANSWERED),
-                     [UNKNOWN] = SPAN(RAKHUBOLE_UNKNOWN_PRN, RAKHUBOLE_UNKNOWN_LAYOUT)},
+    [CALL_REPORT] = {[REFUSED] = FRAME_REFUSALS | REPORT_REFUSALS,
+                     [VERDICT] = VERDICTS,
+                     [ROW] = ROWS,
+                     [UNKNOWN] = UNKNOWNS},
+    [CALL_ISO_READ] = {[REFUSED] = MESSAGE_REFUSALS,
+                       [SUM_BEFORE] = ONE(RAKHUBOLE_FIRST_BYTE_WRONG)},
+    [CALL_ISO_WRITE] = {[REFUSED] = MESSAGE_WRITE_REFUSALS},
+    [CALL_ISO_REPORT] = {[REFUSED] = MESSAGE_REFUSALS | REPORT_REFUSALS,
+                         [SUM_BEFORE] = ONE(RAKHUBOLE_FIRST_BYTE_WRONG),
+                         [VERDICT] = VERDICTS,
+                         [ROW] = ROWS,
+                         [UNKNOWN] = UNKNOWNS & ~ONE(RAKHUBOLE_UNKNOWN_RESPONSE)},
 };
 
 struct tally {
@@ -58,20 +79,35 @@ static void count_rows(struct tally *tally, const uint8_t *out, size_t length)
     }
 }
 
+/* A message with a wrong sum whose first byte would be refused too. It is a
+ * branch of its own, so that libFuzzer keeps an input in which the order of both
+ * tests shows. */
+static bool is_sum_first(const struct request *request, unsigned refusal)
+{
+    enum call call = request->call;
+    if (refusal != RAKHUBOLE_CHECK_BYTE_WRONG || (call != CALL_ISO_READ && call != CALL_ISO_REPORT))
+        return false;
+    const struct run *message = &request->in[runs_of(call) - 1];
+    return message->bytes[0] != fitting_first_byte(message->bytes[0]);
+}
+
 void count_classes(const struct request *request, uint64_t answer, const uint8_t *out)
 {
     struct tally *tally = &tallies[request->call];
     tally->inputs++;
     for (size_t i = 0; i < runs_of(request->call); i++)
         tally->null_runs += request->in[i].length == 0;
-    if (RAKHUBOLE_REFUSAL(answer) != 0) {
-        tally->counts[REFUSED][RAKHUBOLE_REFUSAL(answer)]++;
+    unsigned refusal = RAKHUBOLE_REFUSAL(answer);
+    if (is_sum_first(request, refusal))
+        tally->counts[SUM_BEFORE][RAKHUBOLE_FIRST_BYTE_WRONG]++;
+    if (refusal != 0) {
+        tally->counts[REFUSED][refusal]++;
         return;
     }
     tally->accepted++;
     if (request->call == CALL_READ)
         tally->counts[KIND][RAKHUBOLE_READ_KIND(answer)]++;
-    if (request->call == CALL_REPORT)
+    if (is_report(request->call))
         count_rows(tally, out, RAKHUBOLE_ROWS_LENGTH(answer));
 }
 

@@ -1,5 +1,6 @@
 #include "draft.h"
 
+#include "format.h"
 #include "judge.h"
 
 uint8_t take_byte(struct feed *feed)
@@ -40,12 +41,12 @@ void put_run(struct draft *draft, struct feed *feed, size_t length)
         put(draft, take_byte(feed), 1);
 }
 
-static void seal(struct draft *draft)
+static void seal(struct draft *draft, check_byte_of *check_byte)
 {
     if (draft->length == 0)
         return;
     size_t last = draft->length - 1;
-    draft->bytes[last] = judge_check_byte(draft->bytes, last);
+    draft->bytes[last] = check_byte(draft->bytes, last);
 }
 
 void draft_frame(struct feed *feed, struct draft *first, struct draft *response)
@@ -57,7 +58,25 @@ void draft_frame(struct feed *feed, struct draft *first, struct draft *response)
 void seal_frame(uint8_t flags, struct draft *first, struct draft *response)
 {
     if (flags & SEALED)
-        seal(first);
+        seal(first, judge_check_byte);
     if (flags & RESPONSE_SEALED)
-        seal(response);
+        seal(response, judge_check_byte);
+}
+
+uint8_t fitting_first_byte(uint8_t first_byte)
+{
+    return (uint8_t)((first_byte & ~BIT_H) | BIT_K);
+}
+
+void fit_first_byte(uint8_t flags, struct draft *header)
+{
+    if (flags & FITTED && header->length > 0)
+        header->bytes[0] = fitting_first_byte(header->bytes[0]);
+}
+
+void seal_message(uint8_t flags, struct draft *message)
+{
+    fit_first_byte(flags, message);
+    if (flags & SEALED)
+        seal(message, judge_sum);
 }

@@ -40,6 +40,19 @@ void draft_frame(struct feed *feed, struct draft *first, struct draft *response)
 #define RESPONSE_SEALED 2
 void seal_frame(uint8_t flags, struct draft *first, struct draft *response);
 
+/* The byte of the same priority and type that a message of ISO 9141-2 can begin
+ * with: H = 0 and K = 1. */
+uint8_t fitting_first_byte(uint8_t first_byte);
+
+/* Gives a message such a first byte, then a right check byte at the end, or one
+ * of the two. A header alone gets the first byte. */
+#define FITTED 2
+void seal_message(uint8_t flags, struct draft *message);
+void fit_first_byte(uint8_t flags, struct draft *header);
+
+/* Of a writer: the header has the length that the feed says, fitting or not. */
+#define ANY_HEADER_LENGTH 1
+
 /* A supplement, as fuzz/supplement.c says. */
 void draft_supplement(struct feed *feed, struct draft *supplement);
 
@@ -49,6 +62,13 @@ void mend(struct draft *supplement);
 /* Gives the first run the header and selector of a layout of the supplement,
  * if it has one and the run has room. */
 void seek_layout(struct feed *feed, const struct draft *supplement, struct draft *first);
+
+/* The supplement of a report. It is mended, and the first run is one whose
+ * layout it has, where the flags say so. */
+#define MENDED 4
+#define SOUGHT 8
+void draft_report_supplement(struct feed *feed, uint8_t flags, struct draft *supplement,
+                             struct draft *first);
 
 /* Each target turns the feed into the runs of its call and answers the length
  * of the output that is lent. */

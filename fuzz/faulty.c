@@ -2,6 +2,7 @@
  * see: FAULT in the environment says which, 0 for none. */
 #include "calls.h"
 #include "decoder.h"
+#include "draft.h"
 #include "rakhubole.h"
 
 #include <stdlib.h>
@@ -15,7 +16,10 @@ enum fault {
     WRITTEN_BEHIND_OUTPUT,
     WRITTEN_BEFORE_OUTPUT,
     INPUT_CHANGED,
-    REFUSED_BUT_WRITTEN
+    REFUSED_BUT_WRITTEN,
+    /* of a report on ISO 9141-2 */
+    FIRST_BYTE_BEFORE_SUM,
+    WRITTEN_BEHIND_ROWS
 };
 
 static enum fault fault(void)
@@ -60,6 +64,26 @@ static uint64_t faulty_report(const uint8_t *supplement, size_t supplement_lengt
     return answer;
 }
 
+static uint64_t faulty_iso_report(const uint8_t *supplement, size_t supplement_length,
+                                  const uint8_t *run, size_t run_length, uint8_t *out,
+                                  size_t out_length)
+{
+    uint64_t answer = decoder_iso_report(supplement, supplement_length, run, run_length, out,
+                                         out_length);
+    size_t rows = RAKHUBOLE_ROWS_LENGTH(answer);
+    bool has_room = RAKHUBOLE_REFUSAL(answer) == 0 && rows < out_length;
+    switch (fault()) {
+    case FIRST_BYTE_BEFORE_SUM:
+        if (answer == RAKHUBOLE_CHECK_BYTE_WRONG && run[0] != fitting_first_byte(run[0]))
+            return RAKHUBOLE_FIRST_BYTE_WRONG;
+        break;
+    case WRITTEN_BEHIND_ROWS: set_byte_of(out, has_room, (ptrdiff_t)rows); break;
+    default: break;
+    }
+    return answer;
+}
+
 const struct calls archive_calls = {
     "faulty", decoder_read, decoder_write, decoder_check, faulty_report,
+    decoder_iso_read, decoder_iso_write, faulty_iso_report,
 };

@@ -2,10 +2,11 @@
 # `make fuzz-replay` runs the committed inputs through the same code and needs no libFuzzer.
 
 FUZZ := build/fuzz
-FUZZ_CALLS := read write check report
+FUZZ_CALLS := read write check report iso_read iso_write iso_report
 JUDGE := build/judge/release/libjudge.a
 CLANG := clang
 SECONDS := 60
+FAULTY_REPORTS := report iso_report
 
 FUZZ_SOURCES := $(addprefix fuzz/,target.c draft.c supplement.c lent.c classes.c judge.c) bench/calls.c $(DECODER_SOURCES)
 FUZZ_NEEDS := $(FUZZ_SOURCES) bench/archive.c $(wildcard fuzz/*.h bench/*.h) host/format.h $(BENCH)/sae_rows.h include/rakhubole.h $(JUDGE) archive
@@ -33,17 +34,24 @@ checks: fuzz-replay fuzz-faults
 fuzz-replay: $(FUZZ_CALLS:%=$(FUZZ)/%-replay) ## run the committed fuzz inputs through every call
 	for call in $(FUZZ_CALLS); do $(FUZZ)/$$call-replay fuzz/corpus/$$call || exit 1; done
 
-$(FUZZ)/faulty-replay: fuzz/faulty.c fuzz/report.c fuzz/replay.c $(FUZZ_NEEDS)
+$(FUZZ)/faulty-%-replay: fuzz/%.c fuzz/faulty.c fuzz/replay.c $(FUZZ_NEEDS)
 	@mkdir -p $(FUZZ)
-	$(CC) $(FUZZ_CFLAGS) -fsanitize=address,undefined fuzz/faulty.c fuzz/report.c fuzz/replay.c $(FUZZ_SOURCES) $(JUDGE_LIBRARIES) -o $@
+	$(CC) $(FUZZ_CFLAGS) -fsanitize=address,undefined $< fuzz/faulty.c fuzz/replay.c $(FUZZ_SOURCES) $(JUDGE_LIBRARIES) -o $@
 
-fuzz-faults: $(FUZZ)/faulty-replay ## see that the replay finds each of eight faults put in on purpose
-	FAULT=0 $< fuzz/corpus/report > $(FUZZ)/fault-0.log
-	for fault in 1 2 3 4 5 6 7 8; do \
-		if FAULT=$$fault $< fuzz/corpus/report > $(FUZZ)/fault-$$fault.log 2>&1; then \
+# Without a fault the replay of a call passes, with each of these it does not: call, faults.
+define SEE_FAULTS
+	FAULT=0 $(FUZZ)/faulty-$(1)-replay fuzz/corpus/$(1) > $(FUZZ)/fault-0.log
+	for fault in $(2); do \
+		log=$(FUZZ)/fault-$$fault.log; \
+		if FAULT=$$fault $(FUZZ)/faulty-$(1)-replay fuzz/corpus/$(1) > $$log 2>&1; then \
 			echo "fault $$fault was not seen"; exit 1; \
 		fi; \
 	done
+endef
+
+fuzz-faults: $(FAULTY_REPORTS:%=$(FUZZ)/faulty-%-replay) ## see that the replay finds each of ten faults put in on purpose
+	$(call SEE_FAULTS,report,1 2 3 4 5 6 7 8)
+	$(call SEE_FAULTS,iso_report,9 10)
 
 # New inputs stay in build/; one that fails is named there too.
 fuzz: $(FUZZ_CALLS:%=$(FUZZ)/%-fuzz) ## fuzz every call with libFuzzer, SECONDS=60 each (needs clang)

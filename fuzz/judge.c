@@ -1,9 +1,11 @@
 #include "judge.h"
 
-read_call judge_read;
-check_call judge_check;
-output_call judge_write, judge_report;
+one_run_call judge_check, judge_iso_read;
+two_run_call judge_read;
+two_run_output_call judge_iso_write, judge_iso_report;
+three_run_output_call judge_write, judge_report;
 
 const struct calls judge_calls = {
     "judge", judge_read, judge_write, judge_check, judge_report,
+    judge_iso_read, judge_iso_write, judge_iso_report,
 };

@@ -16,12 +16,19 @@ FORMAT = c_names("host/format.h")
 MOST_SEED = 400
 MOST_LENGTH = 15                  # of a run behind a short length
 ANY_HEADER_LENGTH = 1
-SEALED = 3
+FITTED = 2
+SEALED = 3                        # on ISO 9141-2 fitted too
 SEALED_AND_MENDED = 7
 RAW_BYTES = 4                     # the other steps are the kinds of records
 RECORD_SIZES = {FORMAT.RECORD_SLOT: FORMAT.SLOT_SIZE, FORMAT.RECORD_PRN: FORMAT.PRN_SIZE,
                 FORMAT.RECORD_LAYOUT: FORMAT.LAYOUT_SIZE}
 END = b"\0"
+# By the letter of a line: the target; of a frame case also the runs of its call, and the flags of
+# the inputs that it gives.
+FRAME_CALLS = {"R": ("read", 2, [0, SEALED]), "W": ("write", 3, [ANY_HEADER_LENGTH]),
+               "r": ("iso_read", 1, [0, SEALED]),
+               "w": ("iso_write", 2, [ANY_HEADER_LENGTH, ANY_HEADER_LENGTH | FITTED])}
+REPORT_CALLS = {"J": "report", "I": "iso_report"}
 
 
 def short_run(run):
@@ -71,11 +78,11 @@ def columns(line):
 
 def frame_seeds(line):
     runs, lent = columns(line)
-    if line[0] == "R":
-        frame = short_run(runs[0]) + short_run(runs[1])
-        return "read", [END + frame, bytes([SEALED]) + frame]
-    header = bytes([ANY_HEADER_LENGTH]) + b"".join(map(short_run, runs))
-    return "write", [header + bytes([min(lent, MOST_LENGTH)])]
+    call, run_count, flags = FRAME_CALLS[line[0]]
+    parts = b"".join(map(short_run, runs[:run_count]))
+    if line[0] in "Ww":
+        parts += bytes([min(lent, MOST_LENGTH)])
+    return call, [bytes([flag]) + parts for flag in flags]
 
 
 def supplement_seeds(line):
@@ -84,11 +91,13 @@ def supplement_seeds(line):
 
 
 def report_seeds(line):
-    words = line.split(" ")
+    bus, *words = line.split(" ")
     supplement, first, response = (bytes.fromhex(words[at]) for at in (1, 3, 5))
-    frame = bytes([int(words[6], 16)]) + short_run(first) + short_run(response)
-    return "report", [END + frame + raw_steps(supplement),
-                      bytes([SEALED_AND_MENDED]) + frame + record_steps(supplement)]
+    frame = bytes([int(words[6], 16)]) + short_run(first)
+    if bus == "J":
+        frame += short_run(response)
+    return REPORT_CALLS[bus], [END + frame + raw_steps(supplement),
+                               bytes([SEALED_AND_MENDED]) + frame + record_steps(supplement)]
 
 
 def main():

@@ -273,3 +273,13 @@ void seek_layout(struct feed *feed, const struct draft *supplement, struct draft
     if (layout[LAYOUT_HAS_SELECTOR])
         bytes[selector] = layout[LAYOUT_SELECTOR];
 }
+
+void draft_report_supplement(struct feed *feed, uint8_t flags, struct draft *supplement,
+                             struct draft *first)
+{
+    draft_supplement(feed, supplement);
+    if (flags & MENDED)
+        mend(supplement);
+    if (flags & SOUGHT)
+        seek_layout(feed, supplement, first);
+}

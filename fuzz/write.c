@@ -3,8 +3,6 @@
 #include "draft.h"
 #include "format.h"
 
-#define ANY_HEADER_LENGTH 1
-
 const enum call target_call = CALL_WRITE;
 
 size_t draft_runs(struct feed *feed, struct draft runs[MOST_RUNS])

@@ -1,8 +1,8 @@
 //! The calls of the C interface as the second program answers them.
 
+use peer::case::Call;
 use peer::frame::check_byte::check_byte;
-use peer::frame::{reader, writer};
-use peer::{report, supplement};
+use peer::frame::iso;
 use std::slice;
 
 /// A lent run; NULL with length 0 is empty.
@@ -14,8 +14,14 @@ unsafe fn run<'a>(start: *const u8, length: usize) -> &'a [u8] {
     }
 }
 
-/// Puts what was written at the start of the lent output.
-unsafe fn put((answer, written): (u64, Vec<u8>), out: *mut u8) -> u64 {
+/// The answer of a call without an output.
+fn answer(call: Call, inputs: &[&[u8]]) -> u64 {
+    call.answer(inputs, 0).0
+}
+
+/// The answer of a call that puts what it writes at the start of the lent output.
+unsafe fn put_answer(call: Call, inputs: &[&[u8]], out: *mut u8, out_length: usize) -> u64 {
+    let (answer, written) = call.answer(inputs, out_length);
     if !written.is_empty() {
         slice::from_raw_parts_mut(out, written.len()).copy_from_slice(&written);
     }
@@ -31,7 +37,8 @@ pub unsafe extern "C" fn judge_read(
     response: *const u8,
     response_length: usize,
 ) -> u64 {
-    reader::answer(run(first, first_length), run(response, response_length))
+    let inputs = [run(first, first_length), run(response, response_length)];
+    answer(Call::Read, &inputs)
 }
 
 /// # Safety
@@ -47,20 +54,16 @@ pub unsafe extern "C" fn judge_write(
     out: *mut u8,
     out_length: usize,
 ) -> u64 {
-    let request = writer::Request {
-        header: run(header, header_length),
-        data: run(data, data_length),
-        response: run(response, response_length),
-        out_length,
-    };
-    put(writer::answer(&request), out)
+    let (header, data) = (run(header, header_length), run(data, data_length));
+    let inputs = [header, data, run(response, response_length)];
+    put_answer(Call::Write, &inputs, out, out_length)
 }
 
 /// # Safety
 /// As above.
 #[no_mangle]
 pub unsafe extern "C" fn judge_check(supplement: *const u8, length: usize) -> u64 {
-    supplement::answer(run(supplement, length))
+    answer(Call::Check, &[run(supplement, length)])
 }
 
 /// # Safety
@@ -76,13 +79,47 @@ pub unsafe extern "C" fn judge_report(
     out: *mut u8,
     out_length: usize,
 ) -> u64 {
-    let request = report::Request {
-        supplement: run(supplement, supplement_length),
-        first: run(first, first_length),
-        response: run(response, response_length),
-        out_length,
-    };
-    put(report::answer(&request), out)
+    let (first, response) = (run(first, first_length), run(response, response_length));
+    let inputs = [run(supplement, supplement_length), first, response];
+    put_answer(Call::Report, &inputs, out, out_length)
+}
+
+/// # Safety
+/// As above.
+#[no_mangle]
+pub unsafe extern "C" fn judge_iso_read(start: *const u8, length: usize) -> u64 {
+    answer(Call::IsoRead, &[run(start, length)])
+}
+
+/// # Safety
+/// As above; the output overlaps no input.
+#[no_mangle]
+pub unsafe extern "C" fn judge_iso_write(
+    header: *const u8,
+    header_length: usize,
+    data: *const u8,
+    data_length: usize,
+    out: *mut u8,
+    out_length: usize,
+) -> u64 {
+    let inputs = [run(header, header_length), run(data, data_length)];
+    put_answer(Call::IsoWrite, &inputs, out, out_length)
+}
+
+/// # Safety
+/// As above; the output overlaps no input.
+#[no_mangle]
+pub unsafe extern "C" fn judge_iso_report(
+    supplement: *const u8,
+    supplement_length: usize,
+    message: *const u8,
+    message_length: usize,
+    out: *mut u8,
+    out_length: usize,
+) -> u64 {
+    let message = run(message, message_length);
+    let inputs = [run(supplement, supplement_length), message];
+    put_answer(Call::IsoReport, &inputs, out, out_length)
 }
 
 /// The check byte of a run.
@@ -92,4 +129,13 @@ pub unsafe extern "C" fn judge_report(
 #[no_mangle]
 pub unsafe extern "C" fn judge_check_byte(start: *const u8, length: usize) -> u8 {
     check_byte(run(start, length))
+}
+
+/// The check byte of a message of ISO 9141-2, sent after these bytes.
+///
+/// # Safety
+/// As above.
+#[no_mangle]
+pub unsafe extern "C" fn judge_sum(start: *const u8, length: usize) -> u8 {
+    iso::sum(run(start, length))
 }
