@@ -5,7 +5,8 @@
  *
  * The cases are the committed vectors, each with several lengths of output, and
  * so many random ones from a fixed seed: mostly good frames under supplements
- * that have a layout for them, and near misses. The first case that differs is
+ * that have a layout for them, and near misses. Calls that the earlier archive
+ * lacks are left out, their vectors counted. The first case that differs is
  * printed, and the status is then 1. */
 #include "calls.h"
 #include "classes.h"
@@ -26,19 +27,36 @@
 /* The message type whose response ends in a check byte. */
 #define CHECKED_TYPE 3
 
-/* The earlier archive; each of its names has this before it. */
-read_call before_rakhubole_j1850_read;
-output_call before_rakhubole_j1850_write, before_rakhubole_j1850_report;
-check_call before_rakhubole_supplement_check;
+/* The earlier archive; each of its names has this before it. Weak, so that a
+ * call which it lacks is NULL. */
+#define EARLIER __attribute__((weak))
+EARLIER one_run_call before_rakhubole_supplement_check, before_rakhubole_iso9141_read;
+EARLIER two_run_call before_rakhubole_j1850_read;
+EARLIER two_run_output_call before_rakhubole_iso9141_write, before_rakhubole_iso9141_report;
+EARLIER three_run_output_call before_rakhubole_j1850_write, before_rakhubole_j1850_report;
 
 static const struct calls before_calls = {
     "before", before_rakhubole_j1850_read, before_rakhubole_j1850_write,
     before_rakhubole_supplement_check, before_rakhubole_j1850_report,
+    before_rakhubole_iso9141_read, before_rakhubole_iso9141_write,
+    before_rakhubole_iso9141_report,
 };
 static const struct calls *const both[] = {&before_calls, &archive_calls};
 static const char *const names[] = {"before", "now"};
 
 static unsigned long cases, differences;
+/* Vectors of calls that the earlier archive lacks. */
+static size_t skipped;
+
+/* Whether both archives have the call. */
+static bool is_shared(enum call call)
+{
+    const bool had[CALLS] = {
+        before_calls.read, before_calls.write, before_calls.check, before_calls.report,
+        before_calls.iso_read, before_calls.iso_write, before_calls.iso_report,
+    };
+    return had[call];
+}
 
 /* ---- Comparing ---- */
 
@@ -144,20 +162,24 @@ static size_t result_length(const struct request *request)
     uint64_t answer = answer_in(&left[0], &before_calls, &mine);
     if (RAKHUBOLE_REFUSAL(answer) != 0)
         return 0;
-    return request->call == CALL_WRITE
+    return is_write(request->call)
                ? RAKHUBOLE_WRITE_FIRST(answer) + RAKHUBOLE_WRITE_RESPONSE(answer)
                : RAKHUBOLE_ROWS_LENGTH(answer);
 }
 
 static bool has_output(enum call call)
 {
-    return call == CALL_WRITE || call == CALL_REPORT;
+    return is_write(call) || is_report(call);
 }
 
 static void try_vector(const struct request *request, const char *where, void *state)
 {
     struct request mine = *request;
     (void)state;
+    if (!is_shared(request->call)) {
+        skipped++;
+        return;
+    }
     try_case(request, where);
     if (!has_output(request->call))
         return;
@@ -222,16 +244,38 @@ static void draft_response(struct feed *feed, uint8_t first_byte, struct draft *
         put_run(run, feed, lengths[byte % 8]);
 }
 
-/* Both runs of a frame, under a layout of the supplement if it has one. */
+/* Data behind the header, under a layout of the supplement if it has one, and
+ * the place of the check byte. */
+static void draft_behind_header(struct feed *feed, const struct draft *supplement,
+                                struct draft *first)
+{
+    draft_data(feed, first);
+    put(first, 0, 1);
+    if (supplement)
+        seek_layout(feed, supplement, first);
+}
+
+/* Seven of eight messages of ISO 9141-2 have a first byte of that bus. */
+static uint8_t message_flags(struct feed *feed)
+{
+    return take_byte(feed) % 8 ? SEALED | FITTED : SEALED;
+}
+
+static void draft_message(struct feed *feed, const struct draft *supplement, struct draft *message)
+{
+    put_run(message, feed, MESSAGE_HEADER);
+    draft_behind_header(feed, supplement, message);
+    seal_message(message_flags(feed), message);
+    miss(feed, message);
+}
+
+/* Both runs of a frame. */
 static void draft_both(struct feed *feed, const struct draft *supplement, struct draft *first,
                        struct draft *response)
 {
     uint8_t flags = SEALED;
     draft_header(feed, first);
-    draft_data(feed, first);
-    put(first, 0, 1);
-    if (supplement)
-        seek_layout(feed, supplement, first);
+    draft_behind_header(feed, supplement, first);
     draft_response(feed, first->bytes[0], response);
     if ((first->bytes[0] & TYPE_BITS) == CHECKED_TYPE) {
         put(response, 0, 1);
@@ -243,20 +287,23 @@ static void draft_both(struct feed *feed, const struct draft *supplement, struct
 }
 
 /* A layout behind the records, as bytes of a fuzz input. In most, no byte of its
- * PRNs says that a PRN is a new one: each is that of a record or of SAE. */
-static void draft_layout(uint8_t flags, struct draft *run)
+ * PRNs says that a PRN is a new one: each is that of a record or of SAE. Its
+ * first byte is one that messages of ISO 9141-2 can have, if they are to use it. */
+static void draft_layout(uint8_t flags, bool for_messages, struct draft *run)
 {
     uint8_t bytes[LAYOUT_FEED];
     struct feed feed = {bytes, sizeof bytes};
     fill_random(bytes, sizeof bytes);
     bytes[0] = RECORD_LAYOUT;
+    if (for_messages)
+        bytes[LAYOUT_FIRST_BYTE] = fitting_first_byte(bytes[LAYOUT_FIRST_BYTE]);
     for (size_t i = LAYOUT_PRN_LIST; flags % 4 && i < sizeof bytes; i++)
         bytes[i] = (uint8_t)(bytes[i] / 4 * 4 + 1 + bytes[i] % 2);
     draft_supplement(&feed, run);
 }
 
 /* Records of all kinds, then a layout; three in four supplements are good. */
-static void draft_records(struct feed *feed, struct draft *run)
+static void draft_records(struct feed *feed, bool for_messages, struct draft *run)
 {
     uint8_t bytes[RECORDS_FEED], flags = take_byte(feed);
     struct feed records = {bytes, sizeof bytes};
@@ -264,7 +311,7 @@ static void draft_records(struct feed *feed, struct draft *run)
     draft_supplement(&records, run);
     if (flags / 4 % 4)
         mend(run);
-    draft_layout(flags, run);
+    draft_layout(flags, for_messages, run);
     if (flags / 4 % 4)
         mend(run);
     miss(feed, run);
@@ -283,10 +330,21 @@ static void draft_request(enum call call, struct draft runs[MOST_RUNS])
         draft_response(&feed, runs[0].bytes[0], &runs[2]);
         miss(&feed, &runs[0]);
         break;
-    case CALL_CHECK: draft_records(&feed, &runs[0]); break;
-    default:
-        draft_records(&feed, &runs[0]);
+    case CALL_CHECK: draft_records(&feed, false, &runs[0]); break;
+    case CALL_REPORT:
+        draft_records(&feed, false, &runs[0]);
         draft_both(&feed, &runs[0], &runs[1], &runs[2]);
+        break;
+    case CALL_ISO_READ: draft_message(&feed, NULL, &runs[0]); break;
+    case CALL_ISO_WRITE:
+        put_run(&runs[0], &feed, MESSAGE_HEADER);
+        draft_data(&feed, &runs[1]);
+        fit_first_byte(message_flags(&feed), &runs[0]);
+        miss(&feed, &runs[0]);
+        break;
+    default:
+        draft_records(&feed, true, &runs[0]);
+        draft_message(&feed, &runs[0], &runs[1]);
     }
 }
 
@@ -301,11 +359,11 @@ static size_t random_room(const struct request *request)
     return rooms[bytes[0] % (sizeof rooms / sizeof *rooms)];
 }
 
-static void try_random(unsigned long number)
+static void try_random(enum call call, unsigned long number)
 {
     static struct draft runs[MOST_RUNS];
     char where[64];
-    struct request request = {.call = (enum call)(number % CALLS)};
+    struct request request = {.call = call};
     for (size_t i = 0; i < MOST_RUNS; i++)
         runs[i].length = 0;
     draft_request(request.call, runs);
@@ -317,6 +375,25 @@ static void try_random(unsigned long number)
     try_case(&request, where);
 }
 
+/* The calls that both have, in turns. */
+static void try_random_cases(unsigned long wanted)
+{
+    for (unsigned long number = 0, turn = 0; number < wanted; turn++)
+        if (is_shared((enum call)(turn % CALLS)))
+            try_random((enum call)(turn % CALLS), number++);
+}
+
+/* The classes of the calls that both have, and the names of the others. */
+static void show_calls(void)
+{
+    for (int call = 0; call < CALLS; call++) {
+        if (is_shared((enum call)call))
+            show_classes((enum call)call);
+        else
+            printf("%s: not in the earlier archive\n", call_names[call]);
+    }
+}
+
 int main(int count, char **words)
 {
     if (count != 3) {
@@ -325,11 +402,13 @@ int main(int count, char **words)
     }
     unsigned long wanted = strtoul(words[2], NULL, 10);
     size_t vectors = visit_vectors(words[1], try_vector, NULL);
-    printf("%zu vectors, %lu cases of them; %lu random cases\n", vectors, cases, wanted);
-    for (unsigned long number = 0; number < wanted; number++)
-        try_random(number);
-    for (int call = 0; call < CALLS; call++)
-        show_classes((enum call)call);
+    printf("%zu vectors, %lu cases of them; %lu random cases\n", vectors - skipped, cases, wanted);
+    if (skipped)
+        printf("%zu vectors skipped: the earlier archive lacks their calls\n", skipped);
+    if (skipped == vectors)
+        return 1;
+    try_random_cases(wanted);
+    show_calls();
     printf("%lu cases, %lu differ\n", cases, differences);
     return differences ? 1 : 0;
 }

@@ -86,10 +86,12 @@ CASES := 1000000
 ALIKE_SOURCES := $(addprefix fuzz/,alike.c draft.c supplement.c classes.c judge.c) $(addprefix bench/,calls.c vectors.c)
 
 # Every name that the earlier archive defines gets another; those that it takes from outside stay.
+# It is linked whole: the weak names of its calls take no file out of an archive.
 alike: $(FUZZ_NEEDS) ## compare with an earlier archive, BEFORE=its path, on the vectors and CASES=1000000 random cases
 	@if [ ! -f "$(BEFORE)" ]; then echo "alike: BEFORE=path of an earlier archive is needed"; exit 2; fi
 	@mkdir -p $(FUZZ)
 	nm -g --defined-only $(BEFORE) | awk 'NF == 3 { print $$3, "before_" $$3 }' | sort -u > $(FUZZ)/before.names
 	objcopy --redefine-syms=$(FUZZ)/before.names $(BEFORE) $(FUZZ)/before.a
-	$(CC) $(BENCH_CFLAGS) -Ifuzz $(ALIKE_SOURCES) $(DECODER_SOURCES) $(FUZZ)/before.a $(FUZZ_LIBRARIES) -o $(FUZZ)/alike
+	$(CC) $(BENCH_CFLAGS) -Ifuzz $(ALIKE_SOURCES) $(DECODER_SOURCES) \
+		-Wl,--whole-archive $(FUZZ)/before.a -Wl,--no-whole-archive $(FUZZ_LIBRARIES) -o $(FUZZ)/alike
 	$(FUZZ)/alike crates $(CASES)
