@@ -79,7 +79,7 @@ $(FUZZ)/bit_errors: fuzz/bit_errors.c $(FUZZ_NEEDS)
 
 checks: bit-errors
 
-bit-errors: $(FUZZ)/bit_errors ## flip every bit of accepted frames, judged by the second program
+bit-errors: $(FUZZ)/bit_errors ## flip every bit of accepted frames and messages
 	$(FUZZ)/bit_errors
 
 CASES := 1000000
