@@ -160,7 +160,7 @@ const struct bench_case *bench_cases(void)
         {"report, 770 SLOT records", report(slot_records(&full_of_slots, 770), seven_items), 0.1},
         {"read", {.call = CALL_READ, .in = {seven_items}}, 0},
         {"write", writing(CALL_WRITE, full_frame, sizeof full_frame), 0},
-        {"ISO report, one layout", with_output(CALL_ISO_REPORT, layout, iso_two_items), 1.0},
+        {"ISO report, one layout", with_output(CALL_ISO_REPORT, layout, iso_two_items), 0},
         {"ISO read", {.call = CALL_ISO_READ, .in = {iso_seven_items}}, 0},
         {"ISO write", writing(CALL_ISO_WRITE, full_message, sizeof full_message), 0},
     };
