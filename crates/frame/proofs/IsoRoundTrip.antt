@@ -17,18 +17,15 @@ use Rattle.frame.specs.Refusal.{accepted, firstBroken, NoRefusal, TooLon
 use Rattle.frame.specs.Iso.{sumByte, wrongFirst, isoReadRules, isoReadRefusal, isoParts, readIso, IsoObeys}
 use Rattle.frame.specs.Iso.{isoFrame, isoWriteRules, isoWriteRefusal, writeIso}
 use Rattle.frame.proofs.seal.Laws.{sealed-is}
-use Rattle.frame.proofs.refusal.Laws.{accepted-is, broken}
+use Rattle.frame.proofs.refusal.Laws.{accepted-exactly, there-and-back, broken}
 use Rattle.frame.proofs.frame.Laws.{run, run-length, run-byte, parts-found, run-again}
-use Rattle.frame.proofs.iso.Laws.{obeys, read-accepts, read-unrefused, first-kept}
-use Rattle.frame.proofs.iso.Laws.{IsoWrites, writes, write-accepts, write-unrefused}
+use Rattle.frame.proofs.iso.Laws.{obeys, read-unrefused, first-kept}
+use Rattle.frame.proofs.iso.Laws.{IsoWrites, writes, write-unrefused}
 
 -- "A frame is accepted exactly when document 01 says so": some parts are handed over exactly when the rules are obeyed.
 pub frame-accepted-exactly : (s : List ℕ) → ((p : Parts) × (readIso s ≡ accepted p)) ↔ IsoObeys s
 unfolding readIso
-frame-accepted-exactly s = (
-  λ a. obeys s (accepted-is (isoReadRefusal s) (isoParts s) (a .0) (a .1) .0),
-  λ o. (isoParts s, read-accepts s (read-unrefused s o)),
-)
+frame-accepted-exactly s = accepted-exactly (isoReadRefusal s) (isoParts s) (obeys s) (read-unrefused s)
 
 same-first : (s t : List ℕ) → getD s 0 0 ≡ getD t 0 0 → wrongFirst s ≡ wrongFirst t
 unfolding wrongFirst
@@ -89,25 +86,22 @@ pub read-back :
     (h d : List ℕ) (room : ℕ) (f : Frame)
     → writeIso h d room ≡ accepted f
     → readIso (f .first) ≡ accepted (record { header = h; body = d; kind = Empty; response = [] })
-unfolding writeIso
+unfolding writeIso readIso
 read-back h d room f e =
-    let made = accepted-is (isoWriteRefusal h d room) (isoFrame h d) f e in
-    let w = writes h d room (made .0) in
-    let clear = same-refusal h d (w .size) room (w .most) (w .fits) ∙ made .0 in
-    sym (ap (λ g. readIso (g .first)) (made .1))
-    ∙ read-accepts (isoFrame h d .first) clear
-    ∙ ap accepted (message-parts h d (w .size))
+    there-and-back (λ g. isoReadRefusal (g .first)) (λ g. isoParts (g .first)) (isoWriteRefusal h d room) (isoFrame h d) f _ e
+    (λ z.
+    let w = writes h d room z in
+    (same-refusal h d (w .size) room (w .most) (w .fits) ∙ z, message-parts h d (w .size)))
 
--- "accepted frames written again give the same bytes", wherever these fit the lent room.
-pub written-again :
-    (s : List ℕ) (p : Parts) (room : ℕ)
-    → readIso s ≡ accepted p
+-- The parts of a message that obeys the rules are written wherever they fit, and make the message.
+again :
+    (s : List ℕ) (room : ℕ)
+    → IsoObeys s
     → length s ≤ room
-    → writeIso (p .header) (p .body) room ≡ accepted (record { first = s; response = [] })
-unfolding readIso isoParts partsAt isoFrame
-written-again s p room e fits =
-    let read = accepted-is (isoReadRefusal s) (isoParts s) p e in
-    let o = obeys s (read .0) in
+    → (let p = isoParts s in
+    (isoWriteRefusal (p .header) (p .body) room ≡ NoRefusal) × (isoFrame (p .header) (p .body) ≡ record { first = s; response = [] }))
+unfolding isoParts partsAt isoFrame
+again s room o fits =
     let h = isoParts s .header in
     let d = isoParts s .body in
     let same : isoFrame h d ≡ record { first = s; response = [] } =
@@ -121,6 +115,15 @@ written-again s p room e fits =
       most = omega (arith, total, o .most);
       fits = omega (arith, total);
     } in
-    sym (ap (λ (q : Parts). writeIso (q .header) (q .body) room) (read .1))
-    ∙ write-accepts h d room (write-unrefused h d room w)
-    ∙ ap accepted same
+    (write-unrefused h d room w, same)
+
+-- "accepted frames written again give the same bytes", wherever these fit the lent room.
+pub written-again :
+    (s : List ℕ) (p : Parts) (room : ℕ)
+    → readIso s ≡ accepted p
+    → length s ≤ room
+    → writeIso (p .header) (p .body) room ≡ accepted (record { first = s; response = [] })
+unfolding readIso writeIso
+written-again s p room e fits =
+    there-and-back (λ q. isoWriteRefusal (q .header) (q .body) room) (λ q. isoFrame (q .header) (q .body))
+    (isoReadRefusal s) (isoParts s) p _ e (λ z. again s room (obeys s z) fits)

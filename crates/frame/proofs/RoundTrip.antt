@@ -1,5 +1,5 @@
 -- Demand 2 for frames: acceptance, the two round trips, and the agreement of reader and writer.
-use mathlib.Core.Path.{_≡_, sym, ap, _∙_}
+use mathlib.Core.Path.{_≡_, ap, _∙_}
 use mathlib.Core.Logic.{_↔_}
 use mathlib.Core.Bool.{false, not}
 use mathlib.Core.List.{List, [], _∷_, _++_}
@@ -17,8 +17,8 @@ use Rattle.frame.specs.Refusal.{TooLong, TooShort, CheckWrong, TypeUnass
 use Rattle.frame.specs.Reader.{readRules, readRefusal, partsOf, readFrame, FrameObeys}
 use Rattle.frame.specs.Writer.{frameOf, writeRules, writeRefusal, writeFrame}
 use Rattle.frame.proofs.seal.Laws.{sealed-is}
-use Rattle.frame.proofs.refusal.Laws.{accepted-is, broken}
-use Rattle.frame.proofs.reader.Laws.{obeys, read-accepts, read-unrefused}
+use Rattle.frame.proofs.refusal.Laws.{accepted-exactly, there-and-back, broken}
+use Rattle.frame.proofs.reader.Laws.{obeys, read-unrefused}
 use Rattle.frame.proofs.writer.Laws.{writes}
 use Rattle.frame.proofs.frame.Written.{frame-parts, run-kind, run-long, run-counted, run-checked}
 use Rattle.frame.proofs.frame.Again.{again}
@@ -26,10 +26,8 @@ use Rattle.frame.proofs.frame.Again.{again}
 -- "A frame is accepted exactly when document 01 says so": some parts are handed over exactly when the rules are obeyed.
 pub frame-accepted-exactly : (first response : List ℕ) → ((p : Parts) × (readFrame first response ≡ accepted p)) ↔ FrameObeys first response
 unfolding readFrame
-frame-accepted-exactly first response = (
-  λ a. obeys first response (accepted-is (readRefusal first response) (partsOf first response) (a .0) (a .1) .0),
-  λ o. (partsOf first response, read-accepts first response (read-unrefused first response o)),
-)
+frame-accepted-exactly first response =
+    accepted-exactly (readRefusal first response) (partsOf first response) (obeys first response) (read-unrefused first response)
 
 -- Header, data and response without check bytes; the header is as long as H says.
 module _ (h d a : List ℕ) (size : length h ≡ headerSize h) where
@@ -83,14 +81,13 @@ pub read-back :
     (h d a : List ℕ) (room : ℕ) (f : Frame)
     → writeFrame h d a room ≡ accepted f
     → readFrame (f .first) (f .response) ≡ accepted (record { header = h; body = d; kind = kindAsked h; response = a })
-unfolding writeFrame
+unfolding writeFrame readFrame
 read-back h d a room f e =
-    let made = accepted-is (writeRefusal h d a room) (frameOf h d a) f e in
-    let w = writes h d a room (made .0) in
-    let clear = same-refusal h d a (w .size) room (w .most) (w .fits) ∙ made .0 in
-    sym (ap (λ g. readFrame (g .first) (g .response)) (made .1))
-    ∙ read-accepts (frameOf h d a .first) (frameOf h d a .response) clear
-    ∙ ap accepted (frame-parts h d a (w .size))
+    there-and-back (λ g. readRefusal (g .first) (g .response)) (λ g. partsOf (g .first) (g .response))
+    (writeRefusal h d a room) (frameOf h d a) f _ e
+    (λ z.
+    let w = writes h d a room z in
+    (same-refusal h d a (w .size) room (w .most) (w .fits) ∙ z, frame-parts h d a (w .size)))
 
 -- "accepted frames written again give the same bytes", wherever these fit the lent room.
 pub written-again :
@@ -98,8 +95,8 @@ pub written-again :
     → readFrame first response ≡ accepted p
     → length first + length response ≤ room
     → writeFrame (p .header) (p .body) (p .response) room ≡ accepted (record { first = first; response = response })
-unfolding readFrame
+unfolding readFrame writeFrame
 written-again first response p room e fits =
-    let read = accepted-is (readRefusal first response) (partsOf first response) p e in
-    sym (ap (λ q. writeFrame (q .header) (q .body) (q .response) room) (read .1))
-    ∙ again first response (obeys first response (read .0)) room fits
+    there-and-back (λ q. writeRefusal (q .header) (q .body) (q .response) room) (λ q. frameOf (q .header) (q .body) (q .response))
+    (readRefusal first response) (partsOf first response) p _ e
+    (λ z. again first response (obeys first response z) room fits)

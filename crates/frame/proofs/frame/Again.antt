@@ -8,13 +8,13 @@ use lib.Seq.{length-take-le, getD-take}
 use Rattle.frame.specs.CheckByte.{checkByte, sealed}
 use Rattle.frame.specs.Response.{isUnassigned, wrongCount, sent, responseSize}
 use Rattle.frame.specs.Header.{headerSize, kindAsked}
-use Rattle.frame.specs.Refusal.{accepted}
+use Rattle.frame.specs.Refusal.{NoRefusal}
 use Rattle.frame.specs.Reader.{partsOf, FrameObeys}
 use Rattle.frame.specs.Frame.{frameSize, partsAt}
-use Rattle.frame.specs.Writer.{frameOf, writeFrame}
+use Rattle.frame.specs.Writer.{frameOf, writeRefusal}
 use Rattle.frame.proofs.response.Laws.{response-kept, response-again, response-size-le}
 use Rattle.frame.proofs.header.Laws.{header-range, same-size, same-kind}
-use Rattle.frame.proofs.writer.Laws.{Writes, write-accepts, write-unrefused}
+use Rattle.frame.proofs.writer.Laws.{Writes, write-unrefused}
 use Rattle.frame.proofs.frame.Laws.{run-again}
 
 module _ (first response : List ℕ) (o : FrameObeys first response) where
@@ -69,13 +69,12 @@ module _ (first response : List ℕ) (o : FrameObeys first response) where
         fits = omega (arith, total);
       }
 
-  -- Its parts, written wherever they fit, are the frame.
+  -- Its parts are written wherever they fit, and make the frame.
   pub again :
       (room : ℕ)
       → length first + length response ≤ room
-      → (let p = partsOf first response in writeFrame (p .header) (p .body) (p .response) room)
-      ≡ accepted (record { first = first; response = response })
+      → (let p = partsOf first response in
+      (writeRefusal (p .header) (p .body) (p .response) room ≡ NoRefusal)
+      × (frameOf (p .header) (p .body) (p .response) ≡ record { first = first; response = response }))
   unfolding partsOf partsAt header body unchecked
-  again room fits =
-      write-accepts header body unchecked room (write-unrefused header body unchecked room (writes-again room fits))
-      ∙ ap accepted frame-again
+  again room fits = (write-unrefused header body unchecked room (writes-again room fits), frame-again)

@@ -1,5 +1,5 @@
 -- Laws of the sum byte, and of reading and writing a message of ISO 9141-2.
-use mathlib.Core.Path.{_≡_, refl, sym, ap, _∙_, subst}
+use mathlib.Core.Path.{_≡_, refl, sym, ap, _∙_}
 use mathlib.Core.Bool.{true, false, not, true≢false}
 use mathlib.Core.List.{List, [], _∷_, _++_}
 use Prim.Native.Nat.{ℕ, _+_, _-_, _%_, _≤_, _<_}
@@ -19,7 +19,7 @@ use Rattle.frame.specs.Iso.{sum, sumByte, wrongFirst, isoReadRules, isoR
 use Rattle.frame.specs.Iso.{isoFrame, isoWriteRules, isoWriteRefusal, writeIso}
 use Rattle.frame.proofs.bytes.Laws.{cases, byte-at}
 use Rattle.frame.proofs.seal.Laws.{Shows}
-use Rattle.frame.proofs.refusal.Laws.{kept, last-kept, none-broken, unrefused-is, refused-is, accepted-is}
+use Rattle.frame.proofs.refusal.Laws.{kept, last-kept, none-broken, unrefused-is, refused-is, accepted-has}
 use Rattle.frame.proofs.frame.Laws.{run-length, sizes-at, handed-at}
 
 -- The sum over what is left of a run: one byte more is added, until nothing is left.
@@ -117,10 +117,10 @@ module _ (run : List ℕ) where
   pub handed : (p : Parts) → readIso run ≡ accepted p → Handed run [] p
   unfolding readIso isoParts
   handed p e =
-      let read = accepted-is (isoReadRefusal run) (isoParts run) p e in
-      let o = obeys (read .0) in
-      subst (Handed run []) (read .1)
-      (handed-at ThreeByteForm run Empty [] (o .long) [] (omega arith) refl (omega arith) (omega (arith, o .most)))
+      accepted-has (Handed run []) (isoReadRefusal run) (isoParts run) p e
+      (λ z.
+      let o = obeys z in
+      handed-at ThreeByteForm run Empty [] (o .long) [] (omega arith) refl (omega arith) (omega (arith, o .most)))
 
 -- The writer's rules, said without an order.
 pub record IsoWrites (header body : List ℕ) (room : ℕ) : Type 0 where
@@ -171,6 +171,5 @@ module _ (h d : List ℕ) where
     pub written-within : (f : Frame) → writeIso h d room ≡ accepted f → (frameSize f ≤ MostBytes) × (frameSize f ≤ room)
     unfolding writeIso
     written-within f e =
-        let made = accepted-is (isoWriteRefusal h d room) (isoFrame h d) f e in
-        let w = writes (made .0) in
-        subst (λ (g : Frame). (frameSize g ≤ MostBytes) × (frameSize g ≤ room)) (made .1) (w .most, w .fits)
+        accepted-has (λ g. (frameSize g ≤ MostBytes) × (frameSize g ≤ room)) (isoWriteRefusal h d room) (isoFrame h d) f e
+        (λ z. (writes z .most, writes z .fits))

@@ -1,5 +1,5 @@
 -- Laws of reading a frame of J1850.
-use mathlib.Core.Path.{_≡_, sym, ap, _∙_, subst}
+use mathlib.Core.Path.{_≡_, sym, ap, _∙_}
 use mathlib.Core.Bool.{not}
 use mathlib.Core.List.{List}
 use Prim.Native.Nat.{ℕ, _+_, _-_, _≤_}
@@ -15,7 +15,7 @@ use Rattle.frame.specs.Frame.{Parts, MostBytes, sizes, Handed}
 use Rattle.frame.specs.Refusal.{refused, accepted, NoRefusal}
 use Rattle.frame.specs.Reader.{readRules, readRefusal, partsOf, readFrame, FrameObeys}
 use Rattle.frame.proofs.response.Laws.{response-obeys, response-kept, response-size-le, kind-le}
-use Rattle.frame.proofs.refusal.Laws.{kept, last-kept, none-broken, unrefused-is, refused-is, accepted-is}
+use Rattle.frame.proofs.refusal.Laws.{kept, last-kept, none-broken, unrefused-is, refused-is, accepted-has}
 use Rattle.frame.proofs.frame.Laws.{sizes-at, handed-at}
 
 module _ (first response : List ℕ) where
@@ -83,11 +83,12 @@ module _ (first response : List ℕ) where
   pub handed : (p : Parts) → readFrame first response ≡ accepted p → Handed first response p
   unfolding readFrame partsOf
   handed p e =
-      let read = accepted-is (readRefusal first response) (partsOf first response) p e in
-      let o = obeys (read .0) in
+      accepted-has (Handed first response) (readRefusal first response) (partsOf first response) p e
+      (λ z.
+      let o = obeys z in
       let kind = kindAsked first in
       let cut = take (responseSize kind (length response)) response in
       let known = kind-le kind (response-kept kind response (o .by-kind) .assigned) in
       let told = ap (λ (n : ℕ). take n response) (sym cut-size) in
       let within : length cut ≤ length response = omega (arith, cut-size, response-size-le kind (length response)) in
-      subst (Handed first response) (read .1) (handed-at (headerSize first) first kind cut (o .long) response known told within (o .most))
+      handed-at (headerSize first) first kind cut (o .long) response known told within (o .most))

@@ -1,5 +1,6 @@
 -- Laws of the rules in their order.
-use mathlib.Core.Path.{_≡_, refl, sym, _∙_}
+use mathlib.Core.Path.{_≡_, refl, sym, ap, _∙_, subst}
+use mathlib.Core.Logic.{_↔_}
 use mathlib.Core.Bool.{Bool, true, false, cond}
 use mathlib.Core.List.{List, [], _∷_}
 use Prim.Native.Nat.{ℕ, _<_}
@@ -44,3 +45,25 @@ accepted-is n a b e =
     cases (eqb n 0)
     (λ t. (eqb-true n 0 t, let f : accepted a ≡ accepted b = sym (unrefused-is n a (eqb-true n 0 t)) ∙ e in cc))
     (λ f. absurd (let g : refused n ≡ accepted b = sym (refused-is n a (eqb-false n 0 f)) ∙ e in let z : _≡_ {A = ℕ} 0 1 = cc in omega arith))
+
+-- So it has what was asked for has wherever there is no refusal.
+pub accepted-has : {A : Type 0} (P : A → Type 0) (n : ℕ) (a b : A) → outcome n a ≡ accepted b → (n ≡ 0 → P a) → P b
+accepted-has P n a b e has = let told = accepted-is n a b e in subst P (told .1) (has (told .0))
+
+-- Something is accepted exactly when rules are obeyed, if obeying them is to have no refusal.
+pub accepted-exactly :
+    {A : Type 0} {Obeyed : Type 0} (n : ℕ) (a : A)
+    → (n ≡ 0 → Obeyed)
+    → (Obeyed → n ≡ 0)
+    → ((b : A) × (outcome n a ≡ accepted b)) ↔ Obeyed
+accepted-exactly n a obeys unrefused = (λ t. obeys (accepted-is n a (t .0) (t .1) .0), λ o. (a, unrefused-is n a (unrefused o)))
+
+-- There and back: what one side accepts the other accepts, and gives back the whole, if it does so of what was asked for.
+pub there-and-back :
+    {A B : Type 0} (refusal : A → ℕ) (make : A → B) (n : ℕ) (a b : A) (whole : B)
+    → outcome n a ≡ accepted b
+    → (n ≡ 0 → (refusal a ≡ 0) × (make a ≡ whole))
+    → outcome (refusal b) (make b) ≡ accepted whole
+there-and-back refusal make n a b whole e back =
+    accepted-has (λ x. outcome (refusal x) (make x) ≡ accepted whole) n a b e
+    (λ z. unrefused-is (refusal a) (make a) (back z .0) ∙ ap accepted (back z .1))

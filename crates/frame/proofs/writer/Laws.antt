@@ -1,5 +1,5 @@
 -- Laws of writing a frame of J1850: its size, and the writer's rules.
-use mathlib.Core.Path.{_≡_, ap, _∙_, subst}
+use mathlib.Core.Path.{_≡_, ap, _∙_}
 use mathlib.Core.Bool.{true, false, cond, not}
 use mathlib.Core.List.{List, _++_}
 use Prim.Native.Nat.{ℕ, _+_, _≤_, _<_}
@@ -16,7 +16,7 @@ use Rattle.frame.specs.Writer.{frameOf, writeRules, writeRefusal, writeF
 use Rattle.frame.proofs.bytes.Laws.{cases}
 use Rattle.frame.proofs.seal.Laws.{length-sealed}
 use Rattle.frame.proofs.response.Laws.{length-sent}
-use Rattle.frame.proofs.refusal.Laws.{kept, last-kept, none-broken, unrefused-is, refused-is, accepted-is}
+use Rattle.frame.proofs.refusal.Laws.{kept, last-kept, none-broken, unrefused-is, refused-is, accepted-has}
 
 -- The writer's rules, said without an order.
 pub record Writes (header body response : List ℕ) (room : ℕ) : Type 0 where
@@ -89,6 +89,5 @@ module _ (h d a : List ℕ) where
     pub written-within : (f : Frame) → writeFrame h d a room ≡ accepted f → (frameSize f ≤ MostBytes) × (frameSize f ≤ room)
     unfolding writeFrame
     written-within f e =
-        let made = accepted-is (writeRefusal h d a room) (frameOf h d a) f e in
-        let w = writes (made .0) in
-        subst (λ (g : Frame). (frameSize g ≤ MostBytes) × (frameSize g ≤ room)) (made .1) (w .most, w .fits)
+        accepted-has (λ g. (frameSize g ≤ MostBytes) × (frameSize g ≤ room)) (writeRefusal h d a room) (frameOf h d a) f e
+        (λ z. (writes z .most, writes z .fits))
