@@ -96,3 +96,9 @@ const char *bus_refusal_words(const struct bus *bus, unsigned refusal)
 {
     return refusal == RAKHUBOLE_HEADER_LENGTH_WRONG ? bus->header_fault : refusal_words(refusal);
 }
+
+const char *bus_response_words(const struct bus *bus, unsigned response_kind)
+{
+    return bus->no_response && response_kind == 0 ? "this bus has none"
+                                                  : response_words(response_kind);
+}

@@ -44,6 +44,9 @@ const char *bus_response_fault(const struct bus *bus, const struct bytes *respon
 /* Whether the library accepts these runs as a frame of the bus. */
 bool bus_accepts(const struct bus *bus, const struct runs *runs);
 
+/* What a response kind asks for, in words. */
+const char *bus_response_words(const struct bus *bus, unsigned response_kind);
+
 /* A refusal of reader, writer or report in words. */
 const char *bus_refusal_words(const struct bus *bus, unsigned refusal);
 

@@ -4,7 +4,6 @@
 #include "hex.h"
 #include "message.h"
 #include "rakhubole.h"
-#include "words.h"
 
 #include <string.h>
 
@@ -40,7 +39,7 @@ static void put_header(const uint8_t *header, size_t length)
     putchar('\n');
 }
 
-static void put_parts(const struct runs *runs, uint64_t answer)
+static void put_parts(const struct bus *bus, const struct runs *runs, uint64_t answer)
 {
     size_t header = RAKHUBOLE_READ_HEADER(answer), data = RAKHUBOLE_READ_DATA(answer);
     size_t response = RAKHUBOLE_READ_RESPONSE(answer);
@@ -52,7 +51,7 @@ static void put_parts(const struct runs *runs, uint64_t answer)
     put_part("check", runs->first.at + header + data, 1);
     putchar('\n');
     put_part("response", runs->response.at, response);
-    printf(", kind %u: %s\n", kind, response_words(kind));
+    printf(", kind %u: %s\n", kind, bus_response_words(bus, kind));
     if (runs->response.count > response) {
         put_part("check", runs->response.at + response, runs->response.count - response);
         puts(", of the response");
@@ -72,7 +71,7 @@ int command_frame(const struct arguments *arguments)
     if (refusal != 0)
         printf("refused: %s (%u)\n", bus_refusal_words(arguments->bus, refusal), refusal);
     else
-        put_parts(&runs, answer);
+        put_parts(arguments->bus, &runs, answer);
     return refusal != 0 ? STATUS_REFUSED : STATUS_DONE;
 }
 

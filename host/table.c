@@ -167,16 +167,17 @@ static void put_remainder(const struct reading *reading)
     printf("%s\n", color_off(line_color(row)));
 }
 
-static void put_response(const struct reading *reading, const struct runs *runs)
+static void put_response(const struct entry *entry, const struct reading *reading)
 {
     const struct row *row = &reading->response;
     printf("  %-*s  %s", FIRST_COLUMN, "response", color_on(line_color(row)));
     if (reading->response_length == 0)
         fputs("none", stdout);
-    put_bytes(stdout, runs->response.at, reading->response_length);
+    put_bytes(stdout, entry->runs.response.at, reading->response_length);
     fputs(", ", stdout);
     if (row->kind == RAKHUBOLE_ROW_ANSWERED)
-        printf("kind %u: %s", (unsigned)row->body, response_words((unsigned)row->body));
+        printf("kind %u: %s", (unsigned)row->body,
+               bus_response_words(entry->bus, (unsigned)row->body));
     else
         put_item(row, NULL);
     printf("%s\n", color_off(line_color(row)));
@@ -199,7 +200,7 @@ static void table_reading(const struct entry *entry, const struct reading *readi
     put_entry(entry);
     put_items(reading);
     put_remainder(reading);
-    put_response(reading, &entry->runs);
+    put_response(entry, reading);
     printf("  %-*s  %s%s: %s%s\n\n", FIRST_COLUMN, "verdict", color_on(color),
            verdict_word(verdict), verdict_reason(verdict), color_off(color));
 }

@@ -109,7 +109,7 @@ back s = cond (eqb (s % 2) 0) (s / 2) (bitXor s Polynomial / 2 + TopBit)
 back-test : ℕ → Bool
 back-test r = eqb (back (step r)) r
 
--- "a step of the register .. [is] one-to-one"
+-- "a step of the register and a sum are one-to-one": the step, since it can be taken backwards.
 step-one-to-one : (r q : ℕ) → r < 256 → q < 256 → step r ≡ step q → r ≡ q
 unfolding back-test back step
 step-one-to-one r q hr hq e =

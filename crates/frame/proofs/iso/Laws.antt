@@ -40,7 +40,7 @@ unfolding sum
 sum-append [] v = omega arith
 sum-append (x ∷ u) v = omega (arith, sum-append u v)
 
--- The change of one byte shows in the sum.
+-- "a step of the register and a sum are one-to-one": the change of one byte shows in the sum.
 pub sum-shows : Shows sumByte
 unfolding sumByte sum
 sum-shows u v x y bx by e =
