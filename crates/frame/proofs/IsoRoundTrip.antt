@@ -1,35 +1,29 @@
 -- Demand 2 for messages of ISO 9141-2: acceptance, the two round trips, and the agreement of reader and writer. The laws bear the
 -- names of J1850's in RoundTrip.
-use mathlib.Core.Path.{_≡_, refl, sym, ap, _∙_}
+use mathlib.Core.Path.{_≡_, ap, _∙_}
 use mathlib.Core.Logic.{_↔_}
-use mathlib.Core.Bool.{false, not, _||_}
+use mathlib.Core.Bool.{false, not}
 use mathlib.Core.List.{List, [], _∷_, _++_}
 use Prim.Native.Nat.{ℕ, _+_, _≤_, _<_}
 use native.Mathlib.Omega.{arith}
 use borrow.Author.Tests.{le-ltb, lt-ltb, eq-eqb}
-use lib.Dec.{ltb, eqb}
-use lib.ListN.{length, getD}
-use lib.Seq.{length-take-le, getD-take}
+use lib.Dec.{ltb}
+use lib.ListN.{length}
 use Rattle.frame.specs.declared.response.ResponseKind.the-variants.{Empty}
-use Rattle.frame.specs.Header.{bitH, bitK, ThreeByteForm}
-use Rattle.frame.specs.Frame.{Frame, frameSize, Parts, partsAt, MostBytes}
+use Rattle.frame.specs.Header.{ThreeByteForm}
+use Rattle.frame.specs.Frame.{Frame, frameSize, Parts, MostBytes}
 use Rattle.frame.specs.Refusal.{accepted, firstBroken, NoRefusal, TooLong, TooShort, CheckWrong, FirstByteWrong}
 use Rattle.frame.specs.Iso.{sumByte, wrongFirst, isoReadRules, isoReadRefusal, isoParts, readIso, IsoObeys}
 use Rattle.frame.specs.Iso.{isoFrame, isoWriteRules, isoWriteRefusal, writeIso}
 use Rattle.frame.proofs.seal.Laws.{sealed-is}
 use Rattle.frame.proofs.refusal.Laws.{accepted-exactly, there-and-back, broken}
-use Rattle.frame.proofs.frame.Laws.{run, run-length, run-byte, parts-found, run-again}
-use Rattle.frame.proofs.iso.Laws.{obeys, read-unrefused, first-kept}
-use Rattle.frame.proofs.iso.Laws.{IsoWrites, writes, write-unrefused}
+use Rattle.frame.proofs.frame.Laws.{run, run-length, run-byte}
+use Rattle.frame.proofs.iso.Laws.{obeys, read-unrefused, same-first, writes, message-parts, again}
 
 -- "A frame is accepted exactly when document 01 says so": some parts are handed over exactly when the rules are obeyed.
 pub frame-accepted-exactly : (s : List ℕ) → ((p : Parts) × (readIso s ≡ accepted p)) ↔ IsoObeys s
 unfolding readIso
 frame-accepted-exactly s = accepted-exactly (isoReadRefusal s) (isoParts s) (obeys s) (read-unrefused s)
-
-same-first : (s t : List ℕ) → getD s 0 0 ≡ getD t 0 0 → wrongFirst s ≡ wrongFirst t
-unfolding wrongFirst
-same-first s t e = ap (λ (b : ℕ). eqb (bitH b) 1 || eqb (bitK b) 0) e
 
 -- Header and data without check byte; the header has three bytes.
 module _ (h d : List ℕ) (size : length h ≡ ThreeByteForm) where
@@ -77,10 +71,6 @@ module _ (h d : List ℕ) (size : length h ≡ ThreeByteForm) where
     λ e. omega (arith, writes h d room e .most),
   )
 
-  pub message-parts : isoParts (isoFrame h d .first) ≡ record { header = h; body = d; kind = Empty; response = [] }
-  unfolding isoParts isoFrame
-  message-parts = parts-found sumByte h d ThreeByteForm (sym size) refl refl
-
 -- "written frames read back to the same parts"
 pub read-back :
     (h d : List ℕ) (room : ℕ) (f : Frame)
@@ -92,30 +82,6 @@ read-back h d room f e =
     (λ z.
     let w = writes h d room z in
     (same-refusal h d (w .size) room (w .most) (w .fits) ∙ z, message-parts h d (w .size)))
-
--- The parts of a message that obeys the rules are written wherever they fit, and make the message.
-again :
-    (s : List ℕ) (room : ℕ)
-    → IsoObeys s
-    → length s ≤ room
-    → (let p = isoParts s in
-    (isoWriteRefusal (p .header) (p .body) room ≡ NoRefusal) × (isoFrame (p .header) (p .body) ≡ record { first = s; response = [] }))
-unfolding isoParts partsAt isoFrame
-again s room o fits =
-    let h = isoParts s .header in
-    let d = isoParts s .body in
-    let same : isoFrame h d ≡ record { first = s; response = [] } =
-    ap (λ (t : List ℕ). record { first = t; response = [] }) (run-again sumByte s ThreeByteForm (o .long) (o .check)) in
-    let total : frameSize (isoFrame h d) ≡ length s = ap frameSize same ∙ omega arith in
-    let byte : getD h 0 0 ≡ getD s 0 0 = getD-take ThreeByteForm s 0 0 (omega arith) in
-    let w : IsoWrites h d room =
-    record {
-      size = length-take-le ThreeByteForm s (omega (arith, o .long));
-      first = same-first h s byte ∙ first-kept s (o .first-h) (o .first-k);
-      most = omega (arith, total, o .most);
-      fits = omega (arith, total);
-    } in
-    (write-unrefused h d room w, same)
 
 -- "accepted frames written again give the same bytes", wherever these fit the lent room.
 pub written-again :

@@ -15,8 +15,8 @@ use Rattle.frame.specs.Refusal.{refused, accepted, outcome, CheckWrong}
 use Rattle.frame.specs.Reader.{readFrame}
 use Rattle.frame.specs.Iso.{sumByte, isoReadRules, isoReadRefusal, isoParts, readIso}
 use Rattle.frame.proofs.seal.Laws.{one-changed}
-use Rattle.frame.proofs.check_byte.Laws.{register-shows}
-use Rattle.frame.proofs.iso.Laws.{sum-shows}
+use Rattle.frame.proofs.check_byte.Laws.{register-detects}
+use Rattle.frame.proofs.iso.Laws.{sum-detects}
 use Rattle.frame.proofs.refusal.Laws.{broken, kept}
 use Rattle.frame.proofs.RoundTrip.{frame-accepted-exactly}
 use Rattle.frame.proofs.IsoRoundTrip as iso
@@ -44,7 +44,7 @@ pub first-run-changed :
 first-run-changed first other response behind p q bf bo o e f =
     let was = frame-accepted-exactly first response .0 (p, e) .check in
     let is = frame-accepted-exactly other behind .0 (q, f) .check in
-    true≢false (sym is ∙ one-changed checkByte register-shows first other bf bo o was)
+    true≢false (sym is ∙ one-changed checkByte register-detects first other bf bo o was)
 
 -- "on ISO 9141-2 it is refused with 3"
 pub message-changed :
@@ -58,7 +58,7 @@ unfolding readIso isoReadRefusal isoReadRules
 message-changed run other p br bo o e =
     let was = iso.frame-accepted-exactly run .0 (p, e) in
     let size = same-length run other o in
-    let found = one-changed sumByte sum-shows run other br bo o (was .check) in
+    let found = one-changed sumByte sum-detects run other br bo o (was .check) in
     ap (λ (n : ℕ). outcome n (isoParts other))
     (kept _ _ (le-ltb MostBytes (length other) (omega (arith, was .most)))
     ∙ kept _ _ (le-ltb (length other) (ThreeByteForm + 1) (omega (arith, was .long)))

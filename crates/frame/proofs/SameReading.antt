@@ -56,7 +56,7 @@ module _ (h d : List ℕ) (size : length h ≡ ThreeByteForm) (right : wrongFirs
   parts =
       frame-parts h d [] sizes-agree
       ∙ ap (λ k. record { header = h; body = d; kind = k; response = [] }) kind
-      ∙ sym (iso-trip.message-parts h d size)
+      ∙ sym (iso.message-parts h d size)
 
   -- Refused alike, or accepted with the same parts.
   pub same-reading : readIso (isoFrame h d .first) ≡ readFrame (frameOf h d [] .first) (frameOf h d [] .response)

@@ -22,7 +22,7 @@ ghost use Rattle.frame.specs.Frame.{sizes, readingOf, runs, writingOf, o
 ghost use Rattle.frame.specs.Iso.{sumByte, wrongFirst, isoReadRefusal, readIso, isoWriteRefusal, writeIso};
 
 // Bits 7 to 0 of a sum.
-const BYTE_BITS: u16 = 0xFF;
+const LOW_BYTE: u16 = 0xFF;
 
 // The least that a message has: its header and its check byte.
 const LEAST_BYTES: usize = THREE_BYTE_FORM + 1;
@@ -30,7 +30,7 @@ const LEAST_BYTES: usize = THREE_BYTE_FORM + 1;
 fn added(sum: u8, b: u8) -> u8
     ensures { λ r. ⌜ r ≡ (sum + b) % 256 ⌝ }
 {
-    ((sum as u16 + b as u16) & BYTE_BITS) as u8
+    ((sum as u16 + b as u16) & LOW_BYTE) as u8
 }
 
 // The sum of a run's bytes modulo 256.

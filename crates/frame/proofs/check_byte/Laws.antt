@@ -15,7 +15,7 @@ use Rattle.frame.specs.CheckByte.{Polynomial, AllOnes, Residue, TopBit, 
 use mir.Facts.{and-yes}
 use Rattle.frame.specs.Bytes.{Bytes}
 use Rattle.frame.proofs.bytes.Laws.{below, bytes-front, bytes-behind, byte-at}
-use Rattle.frame.proofs.seal.Laws.{Shows}
+use Rattle.frame.proofs.seal.Laws.{Detects}
 
 -- One step as the code computes it: the high bit by a mask, the move by a shift.
 coded : ℕ → ℕ
@@ -133,10 +133,10 @@ register-one-to-one (x ∷ s) r q hr hq b e =
     let fed = register-one-to-one s (feed r x) (feed q x) (feed-lt r x hr (b 0)) (feed-lt q x hq (b 0)) (λ i. b (suc i)) e in
     xor-cancel 255 r q x (omega arith) (omega arith) (feed-xor r x q x hr (b 0) hq (b 0) fed)
 
--- The change of one byte shows in the check byte.
-pub register-shows : Shows checkByte
+-- The check byte detects a change of one byte.
+pub register-detects : Detects checkByte
 unfolding checkByte register
-register-shows u v x y bx by e =
+register-detects u v x y bx by e =
     let r : ℕ = register AllOnes u in
     let small : r < 256 = register-lt u AllOnes (omega arith) (bytes-front u (x ∷ v) bx) in
     let hx : x < 256 = byte-at u x v bx in

@@ -1,6 +1,6 @@
 -- Laws of the sum byte, and of reading and writing a message of ISO 9141-2.
 use mathlib.Core.Path.{_≡_, refl, sym, ap, _∙_}
-use mathlib.Core.Bool.{true, false, not, true≢false}
+use mathlib.Core.Bool.{true, false, not, _||_, true≢false}
 use mathlib.Core.List.{List, [], _∷_, _++_}
 use Prim.Native.Nat.{ℕ, _+_, _-_, _%_, _≤_, _<_}
 use native.Mathlib.Omega.{arith}
@@ -8,19 +8,19 @@ use native.Mathlib.Numerals.{add-one}
 use borrow.Author.Tests.{le-ltb, ltb-false, eq-eqb, ne-eqb, eqb-true, eqb-false, not-false}
 use lib.Dec.{eqb, lit<}
 use lib.ListN.{length, drop, getD, drop-of-length-le}
-use lib.Seq.{drop-cons}
+use lib.Seq.{drop-cons, length-take-le, getD-take}
 use Rattle.frame.specs.declared.response.ResponseKind.the-variants.{Empty}
 use Rattle.frame.specs.Seal.{isSealedBy}
 use Rattle.frame.specs.Header.{bitH, bitK, ThreeByteForm}
 use Rattle.frame.specs.Response.{KindEmpty}
 use Rattle.frame.specs.Refusal.{refused, accepted, NoRefusal}
-use Rattle.frame.specs.Frame.{Frame, frameSize, Parts, MostBytes, sizes, Handed}
+use Rattle.frame.specs.Frame.{Frame, frameSize, Parts, partsAt, MostBytes, sizes, Handed}
 use Rattle.frame.specs.Iso.{sum, sumByte, wrongFirst, isoReadRules, isoReadRefusal, isoParts, readIso, IsoObeys}
 use Rattle.frame.specs.Iso.{isoFrame, isoWriteRules, isoWriteRefusal, writeIso}
 use Rattle.frame.proofs.bytes.Laws.{cases, byte-at}
-use Rattle.frame.proofs.seal.Laws.{Shows}
+use Rattle.frame.proofs.seal.Laws.{Detects}
 use Rattle.frame.proofs.refusal.Laws.{kept, last-kept, none-broken, unrefused-is, refused-is, accepted-has}
-use Rattle.frame.proofs.frame.Laws.{run-length, sizes-at, handed-at}
+use Rattle.frame.proofs.frame.Laws.{run-length, parts-found, run-again, sizes-at, handed-at}
 
 -- The sum over what is left of a run: one byte more is added, until nothing is left.
 pub sum-start : (s : List ℕ) → sumByte s ≡ (0 + sum s) % 256
@@ -40,10 +40,10 @@ unfolding sum
 sum-append [] v = omega arith
 sum-append (x ∷ u) v = omega (arith, sum-append u v)
 
--- "a step of the register and a sum are one-to-one": the change of one byte shows in the sum.
-pub sum-shows : Shows sumByte
+-- "a step of the register and a sum are one-to-one": the sum detects a change of one byte.
+pub sum-detects : Detects sumByte
 unfolding sumByte sum
-sum-shows u v x y bx by e =
+sum-detects u v x y bx by e =
     omega (arith, e, sum-append u (x ∷ v), sum-append u (y ∷ v), byte-at u x v bx, byte-at u y v by)
 
 -- The first byte, by its two bits.
@@ -70,6 +70,11 @@ first-right s e =
     let h = eqb-false (bitH b) 1 f in
     let k = eqb-false (bitK b) 0 (sym (first-by-k s h) ∙ e) in
     (omega (arith, h), omega (arith, k)))
+
+-- It follows from the byte alone.
+pub same-first : (s t : List ℕ) → getD s 0 0 ≡ getD t 0 0 → wrongFirst s ≡ wrongFirst t
+unfolding wrongFirst
+same-first s t e = ap (λ (b : ℕ). eqb (bitH b) 1 || eqb (bitK b) 0) e
 
 module _ (run : List ℕ) where
   -- No refusal: every rule is obeyed.
@@ -173,3 +178,35 @@ module _ (h d : List ℕ) where
     written-within f e =
         accepted-has (λ g. (frameSize g ≤ MostBytes) × (frameSize g ≤ room)) (isoWriteRefusal h d room) (isoFrame h d) f e
         (λ z. (writes z .most, writes z .fits))
+
+-- The reader finds the parts of which a message was made.
+pub message-parts :
+    (h d : List ℕ)
+    → length h ≡ ThreeByteForm
+    → isoParts (isoFrame h d .first) ≡ record { header = h; body = d; kind = Empty; response = [] }
+unfolding isoParts isoFrame
+message-parts h d size = parts-found sumByte h d ThreeByteForm (sym size) refl refl
+
+-- The parts of a message that obeys the rules are written wherever they fit, and make the message.
+pub again :
+    (s : List ℕ) (room : ℕ)
+    → IsoObeys s
+    → length s ≤ room
+    → (let p = isoParts s in
+    (isoWriteRefusal (p .header) (p .body) room ≡ NoRefusal) × (isoFrame (p .header) (p .body) ≡ record { first = s; response = [] }))
+unfolding isoParts partsAt isoFrame
+again s room o fits =
+    let h = isoParts s .header in
+    let d = isoParts s .body in
+    let same : isoFrame h d ≡ record { first = s; response = [] } =
+    ap (λ (t : List ℕ). record { first = t; response = [] }) (run-again sumByte s ThreeByteForm (o .long) (o .check)) in
+    let total : frameSize (isoFrame h d) ≡ length s = ap frameSize same ∙ omega arith in
+    let byte : getD h 0 0 ≡ getD s 0 0 = getD-take ThreeByteForm s 0 0 (omega arith) in
+    let w : IsoWrites h d room =
+    record {
+      size = length-take-le ThreeByteForm s (omega (arith, o .long));
+      first = same-first h s byte ∙ first-kept s (o .first-h) (o .first-k);
+      most = omega (arith, total, o .most);
+      fits = omega (arith, total);
+    } in
+    (write-unrefused h d room w, same)

@@ -19,9 +19,9 @@ unsnoc s h =
     split-at s (length s - 1) 0 (omega arith)
     ∙ ap (λ (t : List ℕ). take (length s - 1) s ++ getD s (length s - 1) 0 ∷ t) (drop-of-length-le s {i = suc (length s - 1)} (omega arith))
 
--- A check byte in which one byte's change shows: runs that differ in it have different check bytes.
-abbrev pub Shows : (List ℕ → ℕ) → Type 0
-Shows check =
+-- A check byte that detects a change of one byte: runs that differ in it have different check bytes.
+abbrev pub Detects : (List ℕ → ℕ) → Type 0
+Detects check =
     (u v : List ℕ) (x y : ℕ) → Bytes (u ++ x ∷ v) → Bytes (u ++ y ∷ v) → check (u ++ x ∷ v) ≡ check (u ++ y ∷ v) → x ≡ y
 
 module _ (check : List ℕ → ℕ) where
@@ -78,7 +78,7 @@ module _ (check : List ℕ → ℕ) where
       joined out at u (check u ∷ []) e (e′ ∙ ap (λ (w : List ℕ). placed o n (check w ∷ [])) found) p fits
 
   -- Of two runs that differ in one byte only one is sealed: by the change itself where it is the last byte, else by the check byte.
-  module _ (shows : Shows check) where
+  module _ (detects : Detects check) where
     apart :
         (u v : List ℕ) (x y : ℕ)
         → Bytes (u ++ x ∷ v)
@@ -98,7 +98,7 @@ module _ (check : List ℕ → ℕ) where
         (λ w e. eqb-true last (check (u ++ w ∷ mid)) (sym (ends (u ++ w ∷ mid) last) ∙ ap (isSealedBy check) (sym (cut w)) ∙ e)) in
         let front : (w : ℕ) → Bytes (u ++ w ∷ z ∷ v) → Bytes (u ++ w ∷ mid) =
         (λ w b. bytes-front (u ++ w ∷ mid) (last ∷ []) (subst Bytes (cut w) b)) in
-        shows u mid x y (front x bx) (front y by) (sym (told x ex) ∙ told y ey)
+        detects u mid x y (front x bx) (front y by) (sym (told x ex) ∙ told y ey)
 
     pub one-changed :
         (s t : List ℕ) → Bytes s → Bytes t → OneChanged s t → isSealedBy check s ≡ true → isSealedBy check t ≡ false

@@ -1,6 +1,6 @@
 -- Laws of the report's answer, by case.
 use mathlib.Core.Path.{_≡_, refl, sym, ap, _∙_}
-use mathlib.Core.Bool.{cond}
+use mathlib.Core.Bool.{Bool, cond}
 use mathlib.Core.List.{List, _++_}
 use Prim.Native.Nat.{ℕ, _+_, _≤_, _<_}
 use native.Mathlib.Omega.{arith}
@@ -68,7 +68,8 @@ pub record Told (s : List ℕ) (o : Outcome Parts) (rows : List ℕ) : Type 0 wh
 module _ (s : List ℕ) (o : Outcome Parts) (room : ℕ) where
   supplement-refused : (check s .refusal ≡ NoRefusal → ⊥) → reportAnswer s o room ≡ refused (check s .refusal) (check s .place)
   unfolding reportAnswer
-  supplement-refused e = rw (ne-eqb (check s .refusal) NoRefusal e)
+  supplement-refused e =
+      ap (λ (t : Bool). cond t (answerOf s o room) (refused (check s .refusal) (check s .place))) (ne-eqb (check s .refusal) NoRefusal e)
 
   accepted-supplement : Accepted s → reportAnswer s o room ≡ answerOf s o room
   unfolding reportAnswer
