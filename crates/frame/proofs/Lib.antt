@@ -3,5 +3,6 @@ pub mod RoundTrip
 pub mod IsoRoundTrip
 pub mod SameReading
 pub mod OneByte
+pub mod Counts
 pub mod Sentences
 pub mod seal

@@ -9,6 +9,7 @@ use lib.ListN.{length}
 use Rattle.frame.specs.declared.response.ResponseKind.{ResponseKind}
 use Rattle.frame.specs.declared.response.ResponseKind.the-variants.{Empty, Single, Several, Data, Unassigned}
 use Rattle.frame.specs.Response.{kindNumber, sent, KindEmpty}
+use Rattle.frame.specs.Count.{countRules}
 use Rattle.frame.specs.Header.{headerSize, kindAsked, ThreeByteForm}
 use Rattle.frame.specs.Frame.{frameSize}
 use Rattle.frame.specs.Refusal.{outcome, firstBroken}
@@ -46,7 +47,7 @@ module _ (h d : List ℕ) (size : length h ≡ ThreeByteForm) (right : wrongFirs
       omega (arith, writer.frame-size h d [], none, iso.frame-size h d)
 
   refusal : readRefusal (frameOf h d [] .first) (frameOf h d [] .response) ≡ isoReadRefusal (isoFrame h d .first)
-  unfolding readRefusal isoReadRefusal firstBroken
+  unfolding readRefusal isoReadRefusal firstBroken countRules sent
   refusal =
       ap firstBroken (agree h d [] sizes-agree)
       ∙ (rw (kind, total, right) refl)

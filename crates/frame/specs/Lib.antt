@@ -3,8 +3,10 @@ pub mod Refusal
 pub mod Seal
 pub mod CheckByte
 pub mod Response
+pub mod Count
 pub mod Header
 pub mod Frame
 pub mod Reader
 pub mod Writer
+pub mod Former
 pub mod Iso

@@ -1,27 +1,31 @@
--- Reading a frame of J1850: document 01, "The frame", and refusals 1 to 6 in that order.
+-- Reading a frame of J1850: document 01, "The frame", and refusals 1, 2, 3, 4, 50, 51, 52, 53, 6 in that order.
 use Prim.Native.Nat.{ℕ, _+_, _≤_}
 use mathlib.Core.Path.{_≡_}
 use mathlib.Core.Bool.{true, not, _&&_}
-use mathlib.Core.List.{List, [], _∷_}
+use mathlib.Core.List.{List, [], _∷_, _++_}
 use lib.Dec.{ltb}
 use lib.ListN.{length, take}
 use Rattle.frame.specs.CheckByte.{isSealed}
-use Rattle.frame.specs.Response.{isUnassigned, isChecked, wrongCount, responseSize, ResponseObeys}
+use Rattle.frame.specs.Response.{isUnassigned, isChecked, responseSize, ResponseObeys}
+use Rattle.frame.specs.Count.{countRules, DataSent}
 use Rattle.frame.specs.Header.{headerSize, kindAsked}
 use Rattle.frame.specs.Frame.{Parts, partsAt, MostBytes}
-use Rattle.frame.specs.Refusal.{TooLong, TooShort, CheckWrong, TypeUnassigned, CountWrong, ResponseCheckWrong}
+use Rattle.frame.specs.Refusal.{TooLong, TooShort, CheckWrong, TypeUnassigned, ResponseCheckWrong}
 use Rattle.frame.specs.Refusal.{Outcome, outcome, Rule, firstBroken}
 
--- The reader's rules in their order. A kind 3 response needs two bytes, of which one is its check byte.
-unfoldable pub readRules : List ℕ → List ℕ → List Rule
-readRules first response =
+-- The reader's rules in their order, with those of the response's count at their place.
+unfoldable pub readRulesWith : List Rule → List ℕ → List ℕ → List Rule
+readRulesWith counts first response =
     record { number = TooLong; broken = ltb MostBytes (length first + length response) }
     ∷ record { number = TooShort; broken = ltb (length first) (headerSize first + 1) }
     ∷ record { number = CheckWrong; broken = not (isSealed first) }
     ∷ record { number = TypeUnassigned; broken = isUnassigned (kindAsked first) }
-    ∷ record { number = CountWrong; broken = wrongCount (kindAsked first) (responseSize (kindAsked first) (length response)) }
-    ∷ record { number = ResponseCheckWrong; broken = isChecked (kindAsked first) && not (isSealed response) }
-    ∷ []
+    ∷ (counts
+    ++ record { number = ResponseCheckWrong; broken = isChecked (kindAsked first) && not (isSealed response) }
+    ∷ [])
+
+unfoldable pub readRules : List ℕ → List ℕ → List Rule
+readRules first response = readRulesWith (countRules (kindAsked first) DataSent (length response)) first response
 
 unfoldable pub readRefusal : List ℕ → List ℕ → ℕ
 readRefusal first response = firstBroken (readRules first response)

@@ -1,5 +1,5 @@
 -- Refusals, and rules in an order, for every call of every layer: document 01, "Refusal numbers".
-use Prim.Native.Nat.{ℕ}
+use Prim.Native.Nat.{ℕ, _+_}
 use mathlib.Core.Bool.{Bool, cond}
 use mathlib.Core.List.{List, [], _∷_}
 use lib.Dec.{eqb}
@@ -23,10 +23,6 @@ CheckWrong = 3
 abbrev pub TypeUnassigned : ℕ
 TypeUnassigned = 4
 
--- "response count wrong for its kind (kind 3 needs two bytes)"
-abbrev pub CountWrong : ℕ
-CountWrong = 5
-
 -- "check byte of a kind 3 response wrong"
 abbrev pub ResponseCheckWrong : ℕ
 ResponseCheckWrong = 6
@@ -43,6 +39,22 @@ OutputShort = 8
 abbrev pub FirstByteWrong : ℕ
 FirstByteWrong = 9
 
+-- "bytes where K = 1 forbids them": document 02, K2, as the next three.
+abbrev pub ResponseForbidden : ℕ
+ResponseForbidden = 50
+
+-- "nothing where K = 0 requires something"
+abbrev pub ResponseMissing : ℕ
+ResponseMissing = 51
+
+-- "some but too few"
+abbrev pub ResponseTooFew : ℕ
+ResponseTooFew = 52
+
+-- "too many for kind 1"
+abbrev pub ResponseTooMany : ℕ
+ResponseTooMany = 53
+
 -- A refusal with its number, or what was asked for.
 pub data Outcome (A : Type 0) : Type 0 where
   refused : ℕ → Outcome A
@@ -57,6 +69,11 @@ pub record Rule : Type 0 where
 unfoldable pub firstBroken : List Rule → ℕ
 firstBroken [] = NoRefusal
 firstBroken (r ∷ rs) = cond (r .broken) (r .number) (firstBroken rs)
+
+-- How many rules are broken.
+unfoldable pub timesBroken : List Rule → ℕ
+timesBroken [] = 0
+timesBroken (r ∷ rs) = cond (r .broken) 1 0 + timesBroken rs
 
 -- Accepted if there is no refusal.
 abbrev pub outcome : {A : Type 0} → ℕ → A → Outcome A

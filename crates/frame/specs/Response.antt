@@ -1,7 +1,7 @@
--- The response, which follows EOD: document 01, "The frame", fourth and fifth rule.
+-- The response, which follows EOD: document 01, "The frame", fourth and fifth rule. How many bytes it may have: Count.antt.
 use Prim.Native.Nat.{ℕ, _-_, _≤_}
 use mathlib.Core.Path.{_≡_}
-use mathlib.Core.Bool.{Bool, true, false, cond, not}
+use mathlib.Core.Bool.{Bool, true, cond}
 use mathlib.Core.List.{List}
 use lib.Dec.{eqb}
 use lib.ListN.{length}
@@ -42,14 +42,6 @@ isUnassigned kind = eqb (kindNumber kind) KindNone
 -- Only a kind 3 response has a check byte of its own.
 abbrev pub isChecked : ResponseKind → Bool
 isChecked kind = eqb (kindNumber kind) KindData
-
--- Whether a count without check byte is wrong: kind 0 has none, kind 1 exactly one, kinds 2 and 3 one or more.
-abbrev pub wrongCount : ResponseKind → ℕ → Bool
-wrongCount Empty n = not (eqb n 0)
-wrongCount Single n = not (eqb n 1)
-wrongCount Several n = eqb n 0
-wrongCount Data n = eqb n 0
-wrongCount Unassigned n = false
 
 -- A response as it is sent: kind 3 data get a check byte over those data alone.
 unfoldable pub sent : ResponseKind → List ℕ → List ℕ

@@ -1,11 +1,12 @@
 // Reading a frame of J1850: two byte runs to the sizes of its parts.
 use crate::check_byte::is_sealed;
+use crate::count::DATA_SENT;
+use crate::count::count_refusal;
 use crate::frame::MOST_BYTES;
 use crate::frame::Reading;
 use crate::header::header_size;
 use crate::header::kind_asked;
 use crate::refusal::CHECK_WRONG;
-use crate::refusal::COUNT_WRONG;
 use crate::refusal::NO_REFUSAL;
 use crate::refusal::RESPONSE_CHECK_WRONG;
 use crate::refusal::TOO_LONG;
@@ -15,12 +16,11 @@ use crate::response::is_checked;
 use crate::response::is_unassigned;
 use crate::response::kind_number;
 use crate::response::response_size;
-use crate::response::wrong_count;
 ghost use mathlib.Core.Path.{_≡_};
 ghost use Rattle.frame.specs.Frame.{sizes, readingOf};
 ghost use Rattle.frame.specs.Reader.{readRefusal, readFrame};
 
-// The first of the refusals 1 to 6 that applies.
+// The first of the refusals 1, 2, 3, 4, 50, 51, 52, 53, 6 that applies.
 fn read_refusal(first: &[u8], response: &[u8]) -> u8
     ensures { λ r. ⌜ r ≡ readRefusal (now (first .entry)) (now (response .entry)) ⌝ }
 {
@@ -39,8 +39,9 @@ fn read_refusal(first: &[u8], response: &[u8]) -> u8
     if is_unassigned(kind) {
         return TYPE_UNASSIGNED;
     }
-    if wrong_count(kind, response_size(kind, m)) {
-        return COUNT_WRONG;
+    let miscount = count_refusal(kind, DATA_SENT, m);
+    if miscount != NO_REFUSAL {
+        return miscount;
     }
     if is_checked(kind) {
         if !is_sealed(response) {

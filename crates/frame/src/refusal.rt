@@ -14,9 +14,6 @@ pub const CHECK_WRONG: u8 = 3;
 // "K = 0 type unassigned"
 pub const TYPE_UNASSIGNED: u8 = 4;
 
-// "response count wrong for its kind (kind 3 needs two bytes)"
-pub const COUNT_WRONG: u8 = 5;
-
 // "check byte of a kind 3 response wrong"
 pub const RESPONSE_CHECK_WRONG: u8 = 6;
 
@@ -28,3 +25,15 @@ pub const OUTPUT_SHORT: u8 = 8;
 
 // "a first byte with H = 1 or K = 0", on ISO 9141-2
 pub const FIRST_BYTE_WRONG: u8 = 9;
+
+// "bytes where K = 1 forbids them"
+pub const RESPONSE_FORBIDDEN: u8 = 50;
+
+// "nothing where K = 0 requires something"
+pub const RESPONSE_MISSING: u8 = 51;
+
+// "some but too few"
+pub const RESPONSE_TOO_FEW: u8 = 52;
+
+// "too many for kind 1"
+pub const RESPONSE_TOO_MANY: u8 = 53;

@@ -1,6 +1,6 @@
-// The response: its kind, its count, and its bytes without check byte.
+// The response: its kind, and its bytes without check byte.
 ghost use mathlib.Core.Path.{_≡_};
-ghost use Rattle.frame.specs.Response.{kindNumber, isUnassigned, isChecked, wrongCount, responseSize};
+ghost use Rattle.frame.specs.Response.{kindNumber, isUnassigned, isChecked, responseSize};
 
 // What response a message type asks for: document 000, table 5.
 pub enum ResponseKind {
@@ -48,19 +48,6 @@ pub(crate) fn is_checked(kind: ResponseKind) -> bool
     ensures { λ r. ⌜ r ≡ isChecked kind ⌝ }
 {
     kind_number(kind) == KIND_DATA
-}
-
-// Whether a response of n bytes without check byte has the wrong count for its kind.
-pub(crate) fn wrong_count(kind: ResponseKind, n: usize) -> bool
-    ensures { λ r. ⌜ r ≡ wrongCount kind n ⌝ }
-{
-    match kind {
-        ResponseKind::Empty => n != 0,
-        ResponseKind::Single => n != 1,
-        ResponseKind::Several => n == 0,
-        ResponseKind::Data => n == 0,
-        ResponseKind::Unassigned => false,
-    }
 }
 
 // How many of a response's n bytes are not its check byte.

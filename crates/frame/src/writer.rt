@@ -2,11 +2,12 @@
 use crate::bytes::put;
 use crate::bytes::put_both;
 use crate::check_byte::check_byte;
+use crate::count::DATA_GIVEN;
+use crate::count::count_refusal;
 use crate::frame::MOST_BYTES;
 use crate::frame::Writing;
 use crate::header::header_size;
 use crate::header::kind_asked;
-use crate::refusal::COUNT_WRONG;
 use crate::refusal::HEADER_WRONG;
 use crate::refusal::NO_REFUSAL;
 use crate::refusal::OUTPUT_SHORT;
@@ -15,7 +16,6 @@ use crate::refusal::TYPE_UNASSIGNED;
 use crate::response::ResponseKind;
 use crate::response::is_checked;
 use crate::response::is_unassigned;
-use crate::response::wrong_count;
 ghost use mathlib.Core.Path.{_≡_};
 ghost use mathlib.Core.List.{_∷_, [], _++_};
 ghost use Prim.Native.Nat.{_+_, _-_, _≤_, _<_};
@@ -39,7 +39,7 @@ fn frame_size(header: &[u8], body: &[u8], response: &[u8]) -> usize
     }
 }
 
-// The first of the refusals 7, 4, 5, 1, 8 that applies.
+// The first of the refusals 7, 4, 50, 51, 53, 1, 8 that applies.
 fn write_refusal(header: &[u8], body: &[u8], response: &[u8], room: usize) -> u8
     ensures { λ r. ⌜ r ≡ writeRefusal (now (header .entry)) (now (body .entry)) (now (response .entry)) room ⌝ }
 {
@@ -50,8 +50,9 @@ fn write_refusal(header: &[u8], body: &[u8], response: &[u8], room: usize) -> u8
     if is_unassigned(kind) {
         return TYPE_UNASSIGNED;
     }
-    if wrong_count(kind, response.len()) {
-        return COUNT_WRONG;
+    let miscount = count_refusal(kind, DATA_GIVEN, response.len());
+    if miscount != NO_REFUSAL {
+        return miscount;
     }
     // each length by itself first, so that their sum fits
     if MOST_BYTES < body.len() {

@@ -6,7 +6,8 @@ use native.Mathlib.Omega.{arith}
 use lib.ListN.{length, take, drop, getD}
 use lib.Seq.{length-take-le, getD-take}
 use Rattle.frame.specs.CheckByte.{checkByte, sealed}
-use Rattle.frame.specs.Response.{isUnassigned, wrongCount, sent, responseSize}
+use Rattle.frame.specs.Response.{isUnassigned, sent, responseSize}
+use Rattle.frame.specs.Count.{wrongCount}
 use Rattle.frame.specs.Header.{headerSize, kindAsked}
 use Rattle.frame.specs.Refusal.{NoRefusal}
 use Rattle.frame.specs.Reader.{partsOf, FrameObeys}

@@ -4,15 +4,18 @@ use mathlib.Core.Bool.{false, not, _&&_}
 use mathlib.Core.List.{List}
 use native.Mathlib.Omega.{arith}
 use borrow.Author.Tests.{le-ltb}
-use Prim.Native.Nat.{ℕ, _+_}
+use Prim.Native.Nat.{ℕ, _+_, _<_}
 use lib.Dec.{ltb}
 use lib.ListN.{length, take, getD}
+use Rattle.frame.specs.declared.response.ResponseKind.the-variants.{Data}
 use Rattle.frame.specs.CheckByte.{checkByte, isSealed}
-use Rattle.frame.specs.Response.{isChecked, wrongCount, sent, responseSize}
+use Rattle.frame.specs.Response.{isChecked, sent, responseSize}
+use Rattle.frame.specs.Count.{countRules, DataSent, DataGiven}
 use Rattle.frame.specs.Header.{headerSize, kindAsked}
 use Rattle.frame.specs.Reader.{partsOf}
 use Rattle.frame.specs.Writer.{frameOf}
-use Rattle.frame.proofs.response.Laws.{sent-size, sent-found, sent-sealed}
+use Rattle.frame.proofs.response.Laws.{length-sent, sent-found, sent-sealed}
+use Rattle.frame.proofs.count.Laws.{counted-alike}
 use Rattle.frame.proofs.header.Laws.{header-range, same-size, same-kind}
 use Rattle.frame.proofs.frame.Laws.{run, run-length, run-byte, parts-found}
 
@@ -43,15 +46,16 @@ module _ (h d a : List ℕ) (size : length h ≡ headerSize h) where
   unfolding partsOf frameOf
   frame-parts = parts-found checkByte h d (headerSize first) run-size run-kind run-response
 
-  -- Rules 2, 5 and 6 over the frame.
+  -- Rules 2 and 6 over the frame.
   pub run-long : ltb (length first) (headerSize first + 1) ≡ false
   run-long = le-ltb (length first) (headerSize first + 1) (omega (arith, run-length checkByte h d, run-size))
 
-  pub run-counted :
-      (let k = kindAsked first in wrongCount k (responseSize k (length (sent (kindAsked h) a)))) ≡ wrongCount (kindAsked h) (length a)
-  run-counted =
-      let n = length (sent (kindAsked h) a) in
-      ap (λ k. wrongCount k (responseSize k n)) run-kind ∙ ap (wrongCount (kindAsked h)) (sent-size (kindAsked h) a)
-
   pub run-checked : (isChecked (kindAsked first) && not (isSealed (sent (kindAsked h) a))) ≡ false
   run-checked = ap (λ k. isChecked k && not (isSealed (sent (kindAsked h) a))) run-kind ∙ sent-sealed (kindAsked h) a
+
+  -- The reader counts the response as it is sent, the writer as it is given.
+  pub run-counted :
+      (kindAsked h ≡ Data → 0 < length a)
+      → countRules (kindAsked h) DataSent (length (sent (kindAsked h) a)) ≡ countRules (kindAsked h) DataGiven (length a)
+  run-counted some =
+      ap (countRules (kindAsked h) DataSent) (length-sent (kindAsked h) a) ∙ counted-alike (kindAsked h) (length a) some

@@ -10,42 +10,47 @@ use lib.ListN.{length, take}
 use lib.Seq.{length-take-le}
 use Rattle.frame.specs.CheckByte.{isSealed}
 use Rattle.frame.specs.Response.{kindNumber, responseSize}
+use Rattle.frame.specs.Count.{DataSent}
 use Rattle.frame.specs.Header.{headerSize, kindAsked}
 use Rattle.frame.specs.Frame.{Parts, MostBytes, sizes, Handed}
 use Rattle.frame.specs.Refusal.{refused, accepted, NoRefusal}
-use Rattle.frame.specs.Reader.{readRules, readRefusal, partsOf, readFrame, FrameObeys}
+use Rattle.frame.specs.Reader.{readRulesWith, readRules, readRefusal, partsOf, readFrame, FrameObeys}
 use Rattle.frame.proofs.response.Laws.{response-obeys, response-kept, response-size-le, kind-le}
+use Rattle.frame.proofs.count.Laws.{count-past, none-counted, sent-right}
 use Rattle.frame.proofs.refusal.Laws.{kept, last-kept, none-broken, unrefused-is, refused-is, accepted-has}
 use Rattle.frame.proofs.frame.Laws.{sizes-at, handed-at}
 
 module _ (first response : List ℕ) where
   -- No refusal: every rule is obeyed.
   pub obeys : readRefusal first response ≡ NoRefusal → FrameObeys first response
-  unfolding readRefusal readRules
+  unfolding readRefusal readRules readRulesWith
   obeys e =
+      let kind = kindAsked first in
       let one = none-broken _ _ e (lit< tt) in
       let two = none-broken _ _ (one .1) (lit< tt) in
       let three = none-broken _ _ (two .1) (lit< tt) in
       let four = none-broken _ _ (three .1) (lit< tt) in
-      let five = none-broken _ _ (four .1) (lit< tt) in
-      let six = none-broken _ _ (five .1) (lit< tt) in
+      let counted = none-counted kind DataSent (length response) _ (four .1) in
+      let six = none-broken _ _ (counted .1) (lit< tt) in
+      let count = sent-right kind (length response) .0 (counted .0) in
       record {
         most = ltb-false MostBytes (length first + length response) (one .0);
         long = ltb-false (length first) (headerSize first + 1) (two .0);
         check = not-false (isSealed first) (three .0);
-        by-kind = response-obeys (kindAsked first) response (record { assigned = four .0; count = five .0; check = six .0 });
+        by-kind = response-obeys kind response (record { assigned = four .0; count = count; check = six .0 });
       }
 
   -- Every rule is obeyed: no refusal.
   pub read-unrefused : FrameObeys first response → readRefusal first response ≡ NoRefusal
-  unfolding readRefusal readRules
+  unfolding readRefusal readRules readRulesWith
   read-unrefused o =
-      let k = response-kept (kindAsked first) response (o .by-kind) in
+      let kind = kindAsked first in
+      let k = response-kept kind response (o .by-kind) in
       kept _ _ (le-ltb MostBytes (length first + length response) (o .most))
       ∙ kept _ _ (le-ltb (length first) (headerSize first + 1) (o .long))
       ∙ kept _ _ (ap not (o .check))
       ∙ kept _ _ (k .assigned)
-      ∙ kept _ _ (k .count)
+      ∙ count-past kind DataSent (length response) _ (sent-right kind (length response) .1 (k .count))
       ∙ last-kept _ (k .check)
 
   pub read-accepts : readRefusal first response ≡ NoRefusal → readFrame first response ≡ accepted (partsOf first response)

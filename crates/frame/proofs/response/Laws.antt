@@ -10,11 +10,12 @@ use lib.Seq.{take-length}
 use Rattle.frame.specs.declared.response.ResponseKind.{ResponseKind}
 use Rattle.frame.specs.declared.response.ResponseKind.the-variants.{Empty, Single, Several, Data, Unassigned}
 use Rattle.frame.specs.CheckByte.{checkByte, sealed, isSealed}
-use Rattle.frame.specs.Response.{kindNumber, isUnassigned, isChecked, wrongCount, sent, responseSize, ResponseObeys, KindData}
+use Rattle.frame.specs.Response.{kindNumber, isUnassigned, isChecked, sent, responseSize, ResponseObeys, KindData}
+use Rattle.frame.specs.Count.{wrongCount}
 use Rattle.frame.proofs.bytes.Laws.{cases}
 use Rattle.frame.proofs.seal.Laws.{length-sealed, sealed-is, sealed-again, taken-sealed}
 
--- Rules 4 to 6 are kept exactly when the response is what its kind asks for.
+-- Rule 4, the count and rule 6 are kept exactly when the response is what its kind asks for.
 pub record ResponseKept (kind : ResponseKind) (response : List ℕ) : Type 0 where
   pub assigned : isUnassigned kind ≡ false
   pub count : wrongCount kind (responseSize kind (length response)) ≡ false

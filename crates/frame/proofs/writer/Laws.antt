@@ -8,14 +8,16 @@ use borrow.Author.Tests.{lt-ltb, le-ltb, ltb-false, eq-eqb, eqb-true, not-false}
 use lib.Dec.{ltb, lit<}
 use lib.ListN.{length, length-append}
 use Rattle.frame.specs.CheckByte.{checkByte}
-use Rattle.frame.specs.Response.{isChecked, isUnassigned, wrongCount, sent}
+use Rattle.frame.specs.Response.{isChecked, isUnassigned, sent}
+use Rattle.frame.specs.Count.{wrongCount, DataGiven}
 use Rattle.frame.specs.Header.{headerSize, kindAsked}
 use Rattle.frame.specs.Frame.{Frame, frameSize, MostBytes}
 use Rattle.frame.specs.Refusal.{refused, accepted, NoRefusal}
-use Rattle.frame.specs.Writer.{frameOf, writeRules, writeRefusal, writeFrame}
+use Rattle.frame.specs.Writer.{frameOf, writeRulesWith, writeRules, writeRefusal, writeFrame}
 use Rattle.frame.proofs.bytes.Laws.{cases}
 use Rattle.frame.proofs.seal.Laws.{length-sealed}
 use Rattle.frame.proofs.response.Laws.{length-sent}
+use Rattle.frame.proofs.count.Laws.{count-past, none-counted, given-right}
 use Rattle.frame.proofs.refusal.Laws.{kept, last-kept, none-broken, unrefused-is, refused-is, accepted-has}
 
 -- The writer's rules, said without an order.
@@ -52,28 +54,28 @@ module _ (h d a : List ℕ) where
   module _ (room : ℕ) where
     -- No refusal: every rule is kept.
     pub writes : writeRefusal h d a room ≡ NoRefusal → Writes h d a room
-    unfolding writeRefusal writeRules
+    unfolding writeRefusal writeRules writeRulesWith
     writes e =
         let seven = none-broken _ _ e (lit< tt) in
         let four = none-broken _ _ (seven .1) (lit< tt) in
-        let five = none-broken _ _ (four .1) (lit< tt) in
-        let one = none-broken _ _ (five .1) (lit< tt) in
+        let counted = none-counted (kindAsked h) DataGiven (length a) _ (four .1) in
+        let one = none-broken _ _ (counted .1) (lit< tt) in
         let eight = none-broken _ _ (one .1) (lit< tt) in
         record {
           size = eqb-true (length h) (headerSize h) (not-false _ (seven .0));
           assigned = four .0;
-          count = five .0;
+          count = given-right (kindAsked h) (length a) .0 (counted .0);
           most = ltb-false MostBytes (frameSize (frameOf h d a)) (one .0);
           fits = ltb-false room (frameSize (frameOf h d a)) (eight .0);
         }
 
     -- Every rule is kept: no refusal.
     pub write-unrefused : Writes h d a room → writeRefusal h d a room ≡ NoRefusal
-    unfolding writeRefusal writeRules
+    unfolding writeRefusal writeRules writeRulesWith
     write-unrefused w =
         kept _ _ (ap not (eq-eqb (length h) (headerSize h) (w .size)))
         ∙ kept _ _ (w .assigned)
-        ∙ kept _ _ (w .count)
+        ∙ count-past (kindAsked h) DataGiven (length a) _ (given-right (kindAsked h) (length a) .1 (w .count))
         ∙ kept _ _ (le-ltb MostBytes (frameSize (frameOf h d a)) (w .most))
         ∙ last-kept _ (le-ltb room (frameSize (frameOf h d a)) (w .fits))
 

@@ -6,11 +6,13 @@ use native.Mathlib.Omega.{arith}
 use borrow.Author.Needs.{needs}
 use borrow.Author.Tests.{lt-ltb, le-ltb, eq-eqb, ne-eqb}
 use lib.ListN.{length, drop}
-use Rattle.frame.specs.Response.{isUnassigned, wrongCount}
+use Rattle.frame.specs.Response.{isUnassigned}
+use Rattle.frame.specs.Count.{countRules, countRefusal, DataGiven}
 use Rattle.frame.specs.Header.{kindAsked}
 use Rattle.frame.specs.Refusal.{firstBroken}
-use Rattle.frame.specs.Writer.{writeRules, writeRefusal}
+use Rattle.frame.specs.Writer.{writeRulesWith, writeRules, writeRefusal}
 use Rattle.frame.proofs.header.Laws.{header-range}
+use Rattle.frame.proofs.count.Laws.{count-given, count-past}
 use Rattle.frame.proofs.refusal.Laws.{broken, kept, last-kept}
 use Rattle.frame.proofs.writer.Laws.{over-most}
 use Rattle.frame.proofs.writer.write_refusal.Statement.{statement}
@@ -40,11 +42,11 @@ header-size-requires : tie.Need-header-size-requires
 header-size-requires c κs = search needs
 
 returns : tie.Need-returns
-unfolding writeRefusal writeRules
+unfolding writeRefusal writeRules writeRulesWith
 returns c = sym (broken _ _ (ap not (ne-eqb _ _ (λ e. c .if1 .taken (e ∙ sym (c .before .header-size .ensures))))))
 
 past1 : (c : tie.Else1) → Passed 1 (start1 c)
-unfolding writeRefusal writeRules
+unfolding writeRefusal writeRules writeRulesWith
 past1 c = kept _ _ (ap not (eq-eqb _ _ (c .if1 .left ∙ c .before .header-size .ensures)))
 
 kind-asked-requires : tie.Need-kind-asked-requires
@@ -57,40 +59,43 @@ assigned : (c : tie.After-is-unassigned) → isUnassigned (kindAsked (start1 (c 
 assigned c = ap isUnassigned (sym (c .before .kind-asked .ensures)) ∙ sym (c .is-unassigned .ensures)
 
 returns-2 : tie.Need-returns-2
-unfolding writeRules
+unfolding writeRules writeRulesWith
 returns-2 c = sym (past1 (c .before .before .before) ∙ broken _ _ (assigned (c .before) ∙ c .if2 .taken))
 
 past2 : (c : tie.Else2) → Passed 2 (start2 c)
-unfolding writeRules
+unfolding writeRules writeRulesWith
 past2 c = past1 (c .before .before .before) ∙ kept _ _ (assigned (c .before) ∙ c .if2 .left)
 
-wrong-count-requires : tie.Need-wrong-count-requires
-wrong-count-requires c κs = search needs
+count-refusal-requires : tie.Need-count-refusal-requires
+count-refusal-requires c κs = search needs
 
+-- What the count is refused with, for the kind that the header asks for.
 counted :
-    (c : tie.After-wrong-count)
-    → (let a = start2 (c .before) .args in wrongCount (kindAsked (a .header .now)) (length (a .response .now))) ≡ c .wrong-count .result
+    (c : tie.After-count-refusal)
+    → c .count-refusal .result ≡ (let a = start2 (c .before) .args in countRefusal (kindAsked (a .header .now)) DataGiven (length (a .response .now)))
 counted c =
     let n = length (start2 (c .before) .args .response .now) in
-    ap (λ k. wrongCount k n) (sym (c .before .before .before .kind-asked .ensures)) ∙ sym (c .wrong-count .ensures)
+    c .count-refusal .ensures ∙ ap (λ k. countRefusal k DataGiven n) (c .before .before .before .kind-asked .ensures)
 
 returns-3 : tie.Need-returns-3
-unfolding writeRules
-returns-3 c = sym (past2 (c .before .before) ∙ broken _ _ (counted (c .before) ∙ c .if3 .taken))
+unfolding writeRules writeRulesWith
+returns-3 c =
+    let told = counted (c .before) in
+    told ∙ sym (past2 (c .before .before) ∙ count-given _ DataGiven _ _ (λ z. c .if3 .taken (told ∙ z)))
 
-past3 : (c : tie.Else3) → Passed 3 (start3 c)
-unfolding writeRules
-past3 c = past2 (c .before .before) ∙ kept _ _ (counted (c .before) ∙ c .if3 .left)
+past3 : (c : tie.Else3) → Passed 6 (start3 c)
+unfolding writeRules writeRulesWith countRules
+past3 c = past2 (c .before .before) ∙ count-past _ DataGiven _ _ (sym (counted (c .before)) ∙ c .if3 .left)
 
 returns-4 : tie.Need-returns-4
-unfolding writeRules
+unfolding writeRules writeRulesWith countRules
 returns-4 c =
     let a = start3 (c .before) .args in
     let over = over-most (a .header .now) (a .body .now) (a .response .now) (omega (arith, c .if4 .taken)) in
     sym (past3 (c .before) ∙ broken _ _ over)
 
 returns-5 : tie.Need-returns-5
-unfolding writeRules
+unfolding writeRules writeRulesWith countRules
 returns-5 c =
     let a = start3 (c .before .before) .args in
     let over = over-most (a .header .now) (a .body .now) (a .response .now) (omega (arith, c .if5 .taken)) in
@@ -103,21 +108,21 @@ frame-size-requires c κs =
     omega (arith, passed .if1 .left, passed .before .header-size .ensures, header-range header)
 
 returns-6 : tie.Need-returns-6
-unfolding writeRules
+unfolding writeRules writeRulesWith countRules
 returns-6 c =
     let over = lt-ltb _ _ (rw (c .before .frame-size .ensures) at (c .if6 .taken)) in
     sym (past3 (c .before .before .before .before) ∙ broken _ _ over)
 
-past4 : (c : tie.Else6) → Passed 4 (start4 c)
-unfolding writeRules
+past4 : (c : tie.Else6) → Passed 7 (start4 c)
+unfolding writeRules writeRulesWith countRules
 past4 c = past3 (c .before .before .before .before) ∙ kept _ _ (le-ltb _ _ (rw (c .before .frame-size .ensures) at (c .if6 .left)))
 
 returns-7 : tie.Need-returns-7
-unfolding writeRules
+unfolding writeRules writeRulesWith countRules
 returns-7 c = sym (past4 (c .before) ∙ broken _ _ (lt-ltb _ _ (rw (c .before .before .frame-size .ensures) at (c .if7 .taken))))
 
 returns-8 : tie.Need-returns-8
-unfolding writeRules
+unfolding writeRules writeRulesWith countRules
 returns-8 c = sym (past4 (c .before) ∙ last-kept _ (le-ltb _ _ (rw (c .before .before .frame-size .ensures) at (c .if7 .left))))
 
 pub write-refusal-spec : {M : Type 1} → statement M
@@ -129,7 +134,7 @@ write-refusal-spec =
     kind-asked-requires
     is-unassigned-requires
     returns-2
-    wrong-count-requires
+    count-refusal-requires
     returns-3
     returns-4
     returns-5
