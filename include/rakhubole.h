@@ -26,16 +26,16 @@ extern "C" {
 
 /* The version of this interface: its calls, answers, refusals and rows. The
  * first number changes where a caller has to change. */
-#define RAKHUBOLE_VERSION "1.1"
+#define RAKHUBOLE_VERSION "2.0"
 
 /* The refusal in an answer, 0 for none. */
 #define RAKHUBOLE_REFUSAL(answer) ((unsigned)((answer) & 0xFF))
 
-/* The refusals; the first that applies is given. On J1850 the reader tests 1 to
- * 6 in that order, the writer 7, 4, 5, 1, 8. On ISO 9141-2 the reader tests 1,
- * 2, 3, 9, the writer 7, 9, 1, 8. A supplement is refused with 10 or, at its
- * first record with a fault, with the lowest of 11 to 15 that applies. A report
- * tests the supplement, then the frame or message, then 8. */
+/* The refusals; the first that applies is given. On J1850 the reader tests 1,
+ * 2, 3, 4, 50, 51, 52, 53, 6, the writer 7, 4, 50, 51, 53, 1, 8. On ISO 9141-2
+ * the reader tests 1, 2, 3, 9, the writer 7, 9, 1, 8. A supplement is refused
+ * with 10 or, at its first record with a fault, with the lowest of 11 to 15 that
+ * applies. A report tests the supplement, then the frame or message, then 8. */
 enum {
     /* more than 12 bytes in all, both runs and their check bytes counted */
     RAKHUBOLE_OVER_TWELVE_BYTES = 1,
@@ -46,8 +46,6 @@ enum {
     RAKHUBOLE_CHECK_BYTE_WRONG = 3,
     /* bit K is 0 and the message type has no response kind (5, 6 or 7) */
     RAKHUBOLE_TYPE_UNASSIGNED = 4,
-    /* the response has the wrong number of bytes for its kind */
-    RAKHUBOLE_RESPONSE_COUNT_WRONG = 5,
     /* the check byte of a kind 3 response is wrong */
     RAKHUBOLE_RESPONSE_CHECK_BYTE_WRONG = 6,
     /* writer: the header is not 1 or 3 bytes, or not as long as bit H says; on
@@ -68,7 +66,15 @@ enum {
     /* an earlier record of the same kind has the same key */
     RAKHUBOLE_KEY_TWICE = 14,
     /* the key is in the SAE tables, which no supplement overrides */
-    RAKHUBOLE_KEY_IN_SAE = 15
+    RAKHUBOLE_KEY_IN_SAE = 15,
+    /* response bytes where K = 1 forbids them */
+    RAKHUBOLE_RESPONSE_FORBIDDEN = 50,
+    /* no response byte where K = 0 requires a response */
+    RAKHUBOLE_RESPONSE_MISSING = 51,
+    /* reader: a kind 3 response of one byte, where it needs two */
+    RAKHUBOLE_RESPONSE_TOO_FEW = 52,
+    /* more than one response byte for kind 1, which has exactly one */
+    RAKHUBOLE_RESPONSE_TOO_MANY = 53
 };
 
 /* Reads a frame: the run before EOD (header, data, check byte) and the
