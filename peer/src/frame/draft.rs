@@ -176,3 +176,12 @@ pub fn response_of(first_byte: u8, length: usize, random: &mut Random) -> Vec<u8
         _ => random.bytes(length),
     }
 }
+
+/// The run with another last byte.
+pub fn damaged_at_end(run: &[u8]) -> Vec<u8> {
+    let mut damaged = run.to_vec();
+    if let Some(last) = damaged.last_mut() {
+        *last ^= 0x01;
+    }
+    damaged
+}

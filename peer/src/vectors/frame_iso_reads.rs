@@ -1,11 +1,11 @@
 //! The cases of the reader of ISO 9141-2, and what is of one bus read as the
 //! other's.
 
-use super::frame_reads::damaged_at_end;
 use crate::case::Case;
 use crate::frame::bus::Bus;
 use crate::frame::check_byte::{check_byte, checked};
-use crate::frame::draft::{message_of, random_first_byte, starting_with, Draft, ISO_FIRST_BYTES};
+use crate::frame::draft::{damaged_at_end, message_of, random_first_byte, starting_with};
+use crate::frame::draft::{Draft, ISO_FIRST_BYTES};
 use crate::frame::iso::{sum, summed, LEAST_BYTES};
 use crate::frame::MOST_BYTES;
 use crate::random::Random;

@@ -3,7 +3,8 @@
 use crate::case::Case;
 use crate::frame::bus::Runs;
 use crate::frame::check_byte::{check_byte, checked, register, PUBLISHED};
-use crate::frame::draft::{first_run_of, response_of, starting_with, Draft, FIRST_BYTES};
+use crate::frame::draft::{damaged_at_end, first_run_of, response_of, starting_with};
+use crate::frame::draft::{Draft, FIRST_BYTES};
 use crate::frame::header::{header_length, kind_of_run, response_kind};
 use crate::frame::MOST_BYTES;
 use crate::random::Random;
@@ -101,15 +102,6 @@ fn several_faults(random: &mut Random) -> Vec<Runs> {
         }
     }
     list
-}
-
-/// The run with another last byte.
-pub fn damaged_at_end(run: &[u8]) -> Vec<u8> {
-    let mut damaged = run.to_vec();
-    if let Some(last) = damaged.last_mut() {
-        *last ^= 0x01;
-    }
-    damaged
 }
 
 /// Check bytes that other rules would give: the register itself, the data
