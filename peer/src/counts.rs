@@ -65,10 +65,10 @@ pub fn on_bus(bus: Bus, class: &str) -> String {
 /// The refusals of a call in the order of its tests.
 fn refusals(call: Call) -> &'static [u64] {
     match call {
-        Call::Read => &[1, 2, 3, 4, 5, 6],
-        Call::Write => &[7, 4, 5, 1, 8],
+        Call::Read => &[1, 2, 3, 4, 50, 51, 52, 53, 6],
+        Call::Write => &[7, 4, 50, 51, 53, 1, 8],
         Call::Check => &[10, 11, 12, 13, 14, 15],
-        Call::Report => &[1, 2, 3, 4, 5, 6, 8, 10, 11, 12, 13, 14, 15],
+        Call::Report => &[1, 2, 3, 4, 50, 51, 52, 53, 6, 8, 10, 11, 12, 13, 14, 15],
         Call::IsoRead => &[1, 2, 3, 9],
         Call::IsoWrite => &[7, 9, 1, 8],
         Call::IsoReport => &[1, 2, 3, 9, 8, 10, 11, 12, 13, 14, 15],

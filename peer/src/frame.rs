@@ -19,12 +19,16 @@ pub mod refusal {
     pub const FIRST_RUN_SHORT: u8 = 2;
     pub const CHECK_BYTE: u8 = 3;
     pub const UNASSIGNED: u8 = 4;
-    pub const RESPONSE_COUNT: u8 = 5;
     pub const RESPONSE_CHECK_BYTE: u8 = 6;
     pub const HEADER: u8 = 7;
     pub const OUTPUT_SHORT: u8 = 8;
     /// ISO 9141-2 alone: a first byte with H = 1 or K = 0.
     pub const FIRST_BYTE: u8 = 9;
+    pub const RESPONSE_FORBIDDEN: u8 = 50;
+    pub const RESPONSE_MISSING: u8 = 51;
+    /// Of the reader alone.
+    pub const RESPONSE_TOO_FEW: u8 = 52;
+    pub const RESPONSE_TOO_MANY: u8 = 53;
 }
 
 /// What a reader hands on, the same on both buses: the parts of an accepted
@@ -44,6 +48,20 @@ fn split_run(run: &[u8], header_length: usize) -> (&[u8], &[u8]) {
 
 fn without_last(run: &[u8]) -> &[u8] {
     &run[..run.len() - 1]
+}
+
+/// What reader and writer test of the count of response bytes, in the order 50
+/// to 53; `kind_3_least` is the least that kind 3 needs.
+fn test_response_count(kind: u8, count: usize, kind_3_least: usize) -> Result<(), u8> {
+    match (kind, count) {
+        // kind 0 is that of K = 1 and of no other type
+        (0, 0) => Ok(()),
+        (0, _) => Err(refusal::RESPONSE_FORBIDDEN),
+        (_, 0) => Err(refusal::RESPONSE_MISSING),
+        (3, _) if count < kind_3_least => Err(refusal::RESPONSE_TOO_FEW),
+        (1, 2..) => Err(refusal::RESPONSE_TOO_MANY),
+        _ => Ok(()),
+    }
 }
 
 /// What both writers test last: the length of the result, then the room for it.

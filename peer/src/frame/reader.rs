@@ -4,10 +4,13 @@ use super::check_byte;
 use super::header::{header_length, response_kind};
 use super::refusal::*;
 pub use super::Parts;
-use super::{read_answer, split_run, without_last, MOST_BYTES};
+use super::{read_answer, split_run, test_response_count, without_last, MOST_BYTES};
+
+/// A data byte and the check byte.
+const KIND_3_LEAST: usize = 2;
 
 /// The parts of the frame, or the refusal of the first test that fails, in the
-/// order 1 to 6.
+/// order 1, 2, 3, 4, 50, 51, 52, 53, 6.
 pub fn read<'a>(first: &'a [u8], response: &'a [u8]) -> Result<Parts<'a>, u8> {
     if first.len().saturating_add(response.len()) > MOST_BYTES {
         return Err(TOO_LONG);
@@ -21,9 +24,7 @@ pub fn read<'a>(first: &'a [u8], response: &'a [u8]) -> Result<Parts<'a>, u8> {
         return Err(CHECK_BYTE);
     }
     let kind = response_kind(first_byte).ok_or(UNASSIGNED)?;
-    if is_count_wrong(kind, response) {
-        return Err(RESPONSE_COUNT);
-    }
+    test_response_count(kind, response.len(), KIND_3_LEAST)?;
     // a kind 3 check byte is taken over the response's data alone
     if kind == 3 && check_byte::is_wrong(response) {
         return Err(RESPONSE_CHECK_BYTE);
@@ -38,15 +39,6 @@ pub fn read<'a>(first: &'a [u8], response: &'a [u8]) -> Result<Parts<'a>, u8> {
             _ => response,
         },
     })
-}
-
-fn is_count_wrong(kind: u8, response: &[u8]) -> bool {
-    match kind {
-        0 => !response.is_empty(),
-        1 => response.len() != 1,
-        2 => response.is_empty(),
-        _ => response.len() < 2,
-    }
 }
 
 /// The number `rakhubole_j1850_read` returns.

@@ -1,6 +1,6 @@
 use super::*;
 use crate::frame::check_byte::{check_byte, checked};
-use crate::frame::draft::Draft;
+use crate::frame::draft::{damaged_at_end, first_run_of, response_of, Draft};
 use crate::random::Random;
 
 #[test]
@@ -79,14 +79,79 @@ fn sound_run(count: usize) -> Vec<u8> {
 
 #[test]
 fn response_counts() {
-    for (first_byte, accepted) in [(0x18, 0..1), (0x11, 1..2), (0x12, 1..11), (0x13, 2..11)] {
-        let first = checked(&[first_byte]);
-        for count in 0..=10usize {
-            let response = sound_run(count);
-            let expected = if accepted.contains(&count) { 0 } else { 5 };
-            assert_eq!(answer(&first, &response) & 0xFF, expected, "{count}");
+    for count in 0..=10 {
+        let response = sound_run(count);
+        let of_kinds = [0x18, 0x11, 0x12, 0x13]
+            .map(|first_byte| answer(&checked(&[first_byte]), &response) & 0xFF);
+        let expected = match count {
+            0 => [0, 51, 51, 51],
+            1 => [50, 0, 0, 52],
+            _ => [50, 53, 0, 0],
+        };
+        assert_eq!(of_kinds, expected, "{count}");
+    }
+}
+
+/// What the reader of document 01 says of a first run with a right check byte:
+/// 5 for a count that is wrong for its kind.
+fn former(first: &[u8], response: &[u8]) -> u64 {
+    match (response_kind(first[0]), response.len()) {
+        _ if first.len() + response.len() > 12 => 1,
+        (None, _) => 4,
+        (Some(0), 1..) | (Some(1), 0 | 2..) | (Some(2), 0) | (Some(3), 0 | 1) => 5,
+        (Some(3), _) if check_byte::is_wrong(response) => 6,
+        _ => 0,
+    }
+}
+
+#[test]
+fn one_of_the_four_exactly_where_5_was() {
+    let mut random = Random::new(8);
+    for first_byte in 0..=255 {
+        let first = first_run_of(first_byte, header_length(first_byte) + 1, &mut random);
+        for length in 0..=13 {
+            let sound = response_of(first_byte, length, &mut random);
+            for response in [damaged_at_end(&sound), sound] {
+                let number = answer(&first, &response) & 0xFF;
+                match former(&first, &response) {
+                    5 => assert!((50..=53).contains(&number), "{first:02X?} {length}"),
+                    same => assert_eq!(number, same, "{first:02X?} {length}"),
+                }
+            }
         }
     }
+}
+
+/// A first byte and a response for each of the four.
+const WRONG_COUNTS: [(u8, &[u8], u64); 4] = [
+    (0x18, &[1], 50),
+    (0x13, &[], 51),
+    (0x13, &[1], 52),
+    (0x11, &[1, 2], 53),
+];
+
+#[test]
+fn the_four_stand_behind_1_to_4() {
+    for (first_byte, response, number) in WRONG_COUNTS {
+        let refused = |first: &[u8]| answer(first, response);
+        let sound = checked(&[first_byte, 0x41]);
+        let thirteen_in_all = checked(&vec![first_byte; MOST_BYTES - response.len()]);
+        assert_eq!(refused(&thirteen_in_all), 1);
+        assert_eq!(refused(&sound[..1]), 2);
+        assert_eq!(refused(&damaged_at_end(&sound)), 3);
+        assert_eq!(refused(&checked(&[0x15, 0x41])), 4);
+        assert_eq!(refused(&sound), number);
+    }
+}
+
+/// 0 is the check byte of no data, and no better than another byte.
+#[test]
+fn the_four_stand_before_6() {
+    let first = checked(&[0x13]);
+    for only in 0..=255 {
+        assert_eq!(answer(&first, &[only]), 52);
+    }
+    assert_eq!(answer(&first, &[]), 51);
 }
 
 #[test]
@@ -119,6 +184,6 @@ fn order_of_the_tests() {
     assert_eq!(answer(&[0x05, 1, 2], &[]), 2);
     assert_eq!(answer(&[0x15, !unassigned[1]], &[]), 3);
     assert_eq!(answer(&unassigned, &[1, 2, 3]), 4);
-    assert_eq!(answer(&checked(&[0x13]), &[1]), 5);
+    assert_eq!(answer(&checked(&[0x13]), &[1]), 52);
     assert_eq!(answer(&checked(&[0x13]), &[1, 2]), 6);
 }

@@ -3,7 +3,10 @@
 use super::check_byte::checked;
 use super::header::{header_length, kind_of_run, response_kind};
 use super::refusal::*;
-use super::{accepted_answer, test_need};
+use super::{accepted_answer, test_need, test_response_count};
+
+/// A data byte; the check byte is not among those given. So 52 cannot arise.
+const KIND_3_LEAST: usize = 1;
 
 /// What the writer is given: the parts without check bytes, and the length
 /// of the lent output.
@@ -37,29 +40,18 @@ pub fn response_run(kind: Option<u8>, response: &[u8]) -> Vec<u8> {
 }
 
 /// The first run and the response, or the refusal of the first test that fails,
-/// in the order 7, 4, 5, 1, 8.
+/// in the order 7, 4, 50, 51, 53, 1, 8.
 pub fn write(request: &Request) -> Result<(Vec<u8>, Vec<u8>), u8> {
     let first_byte = *request.header.first().ok_or(HEADER)?;
     if request.header.len() != header_length(first_byte) {
         return Err(HEADER);
     }
     let kind = response_kind(first_byte).ok_or(UNASSIGNED)?;
-    if is_count_wrong(kind, request.response) {
-        return Err(RESPONSE_COUNT);
-    }
+    test_response_count(kind, request.response.len(), KIND_3_LEAST)?;
     let need = result_length(request.header, request.data, request.response);
     test_need(need, request.out_length)?;
     let first = first_run(request.header, request.data);
     Ok((first, response_run(Some(kind), request.response)))
-}
-
-/// The check byte of a kind 3 response is not among those given.
-fn is_count_wrong(kind: u8, response: &[u8]) -> bool {
-    match kind {
-        0 => !response.is_empty(),
-        1 => response.len() != 1,
-        _ => response.is_empty(),
-    }
 }
 
 /// The number `rakhubole_j1850_write` returns, and the bytes it puts at the

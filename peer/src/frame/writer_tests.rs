@@ -38,14 +38,44 @@ fn unassigned_types() {
 
 #[test]
 fn response_counts() {
-    for (first_byte, accepted) in [(0x18, 0..1), (0x11, 1..2), (0x12, 1..11), (0x13, 1..10)] {
-        for count in 0..=12 {
-            let expected = match (first_byte, count) {
-                _ if accepted.contains(&count) => 0,
-                (0x12, 11..) | (0x13, 10..) => 1,
-                _ => 5,
-            };
-            assert_eq!(refused(&[first_byte], &[], &vec![9; count], 32), expected);
+    for count in 0..=12 {
+        let response = vec![9; count];
+        let of_kinds =
+            [0x18, 0x11, 0x12, 0x13].map(|first_byte| refused(&[first_byte], &[], &response, 32));
+        let expected = match count {
+            0 => [0, 51, 51, 51],
+            1 => [50, 0, 0, 0],
+            2..=9 => [50, 53, 0, 0],
+            10 => [50, 53, 0, 1],
+            _ => [50, 53, 1, 1],
+        };
+        assert_eq!(of_kinds, expected, "{count}");
+    }
+}
+
+/// What the writer of document 01 says of a fitting header and a long output: 5
+/// for a count that is wrong for its kind.
+fn former(header: &[u8], data: &[u8], response: &[u8]) -> u64 {
+    match (response_kind(header[0]), response.len()) {
+        (None, _) => 4,
+        (Some(0), 1..) | (Some(1), 0 | 2..) | (Some(2 | 3), 0) => 5,
+        _ if result_length(header, data, response) > 12 => 1,
+        _ => 0,
+    }
+}
+
+#[test]
+fn one_of_50_51_and_53_exactly_where_5_was() {
+    let mut random = Random::new(9);
+    for first_byte in 0..=255 {
+        for (data, response) in (0..=13).flat_map(|length| [(0, length), (7, length)]) {
+            let draft = Draft::of_lengths(first_byte, data, response, &mut random);
+            let (header, data, response) = (&draft.header, &draft.data, &draft.response);
+            let number = refused(header, data, response, 32);
+            match former(header, data, response) {
+                5 => assert!([50, 51, 53].contains(&number), "{draft:02X?}"),
+                same => assert_eq!(number, same, "{draft:02X?}"),
+            }
         }
     }
 }
@@ -70,8 +100,13 @@ fn lent_output() {
 #[test]
 fn order_of_the_tests() {
     assert_eq!(refused(&[0x05], &[1; 12], &[9], 0), 7);
-    assert_eq!(refused(&[0x15], &[1; 12], &[9], 0), 4);
-    assert_eq!(refused(&[0x18], &[1; 12], &[9], 0), 5);
+    let wrong_counts: [(u8, &[u8], u64); 3] =
+        [(0x18, &[9], 50), (0x13, &[], 51), (0x11, &[9, 9], 53)];
+    for (first_byte, response, number) in wrong_counts {
+        assert_eq!(refused(&[first_byte, 1], &[1; 12], response, 0), 7);
+        assert_eq!(refused(&[0x15], &[1; 12], response, 0), 4);
+        assert_eq!(refused(&[first_byte], &[1; 12], response, 0), number);
+    }
     assert_eq!(refused(&[0x18], &[1; 12], &[], 0), 1);
     assert_eq!(refused(&[0x18], &[1; 10], &[], 0), 8);
 }
