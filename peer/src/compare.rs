@@ -1,6 +1,7 @@
 //! Comparing the library's archive with the rules, case by case.
 
 mod each;
+mod each_response;
 pub mod frame;
 mod frame_random;
 mod iso_random;

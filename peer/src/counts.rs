@@ -42,7 +42,7 @@ impl Counts {
 }
 
 /// Accepted, or refused with its number; a frame is read or written.
-fn class(call: Call, answer: u64) -> String {
+pub fn class(call: Call, answer: u64) -> String {
     let verdict = match answer & 0xFF {
         0 => "accepted".to_string(),
         number => format!("refused {number}"),

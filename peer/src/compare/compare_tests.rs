@@ -45,9 +45,9 @@ fn is_found(mode: Mode, bend: Bend) -> bool {
     !outcome(mode, bend).differences.is_empty()
 }
 
-fn assert_each_found(bends: &[Bend]) {
+fn assert_each_found(mode: Mode, bends: &[Bend]) {
     for (place, bend) in bends.iter().enumerate() {
-        assert!(is_found(frame::run_iso, *bend), "{place}");
+        assert!(is_found(mode, *bend), "{place}");
     }
 }
 
@@ -57,7 +57,9 @@ fn the_rules_themselves_do_not_differ() {
     for mode in modes {
         assert_eq!(outcome(mode, right).differences, [""; 0]);
     }
-    assert_eq!(outcome(frame::run_iso, right).missing(), [""; 0]);
+    for mode in [frame::run, frame::run_iso] {
+        assert_eq!(outcome(mode, right).missing(), [""; 0]);
+    }
 }
 
 /// An accepted reading of a message of this length.
@@ -93,7 +95,7 @@ fn bent_readers_of_iso() {
             _ => answer,
         },
     ];
-    assert_each_found(&bends);
+    assert_each_found(frame::run_iso, &bends);
 }
 
 #[test]
@@ -121,7 +123,7 @@ fn bent_writers_of_iso() {
             _ => answer,
         },
     ];
-    assert_each_found(&bends);
+    assert_each_found(frame::run_iso, &bends);
 }
 
 #[test]
@@ -138,6 +140,45 @@ fn bent_reports_of_iso() {
         _ => answer,
     };
     assert!(is_found(promise::run, by_size));
+}
+
+#[test]
+fn bent_counts_of_responses() {
+    let bends: [Bend; 7] = [
+        // the withdrawn number
+        |call, _, answer| match (call, answer.0) {
+            (Call::Read, 50..=53) => (5, Vec::new()),
+            _ => answer,
+        },
+        |call, _, answer| match (call, answer.0) {
+            (Call::Write, 50..=53) => (5, Vec::new()),
+            _ => answer,
+        },
+        // 52 from the writer, and 6 for the check byte of no data
+        |call, inputs, answer| match (call, answer.0, inputs[0]) {
+            (Call::Write, 51, [0x13, ..]) => (52, Vec::new()),
+            _ => answer,
+        },
+        |call, inputs, answer| match (call, answer.0, inputs[1]) {
+            (Call::Read, 52, [0]) => (6, Vec::new()),
+            _ => answer,
+        },
+        // the order beside 1
+        |call, inputs, answer| match (call, answer.0, inputs) {
+            (Call::Read, 1, [[0x91, _], [_, ..]]) => (53, Vec::new()),
+            _ => answer,
+        },
+        |call, inputs, answer| match (call, answer.0, inputs) {
+            (Call::Write, 53, [[0x91], data, _]) if data.len() > 10 => (1, Vec::new()),
+            _ => answer,
+        },
+        // one first byte alone
+        |call, inputs, answer| match (call, answer.0, inputs) {
+            (Call::Read, 53, [[0xF4, _, _], [_, _]]) => (0x0002_0101_0100, Vec::new()),
+            _ => answer,
+        },
+    ];
+    assert_each_found(frame::run, &bends);
 }
 
 #[test]

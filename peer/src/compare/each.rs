@@ -1,7 +1,8 @@
-//! What is compared whole and not by chance: each first byte, length, check
-//! byte and room of ISO 9141-2, and on both buses each byte that can be changed.
+//! What is compared whole and not by chance: each length of response of J1850,
+//! each first byte, length, check byte and room of ISO 9141-2, and on both buses
+//! each byte that can be changed.
 
-use super::{Archive, Outcome, ENOUGH};
+use super::{each_response, Archive, Outcome, ENOUGH};
 use crate::case::Case;
 use crate::frame::bus::{Bus, Runs};
 use crate::frame::draft::{message_of, room, starting_with, Draft, FIRST_BYTES, ISO_FIRST_BYTES};
@@ -20,20 +21,20 @@ const CHANGED: &str = "one byte changed";
 
 /// Those of the bus.
 pub fn classes(bus: Bus) -> Vec<String> {
-    let classes: &[&str] = match bus {
-        Bus::J1850 => &[CHANGED],
-        Bus::Iso9141 => &[FIRST_BYTE, LENGTH, CHECK, ROOM, CHANGED],
+    let mut classes = match bus {
+        Bus::J1850 => each_response::classes(),
+        Bus::Iso9141 => [FIRST_BYTE, LENGTH, CHECK, ROOM].map(String::from).into(),
     };
-    classes.iter().map(|class| class.to_string()).collect()
+    classes.push(CHANGED.to_string());
+    classes
 }
 
 impl Outcome {
     /// Runs all of them, unless enough differ.
     pub fn with_each(mut self, archive: Archive, bus: Bus, random: &mut Random) -> Outcome {
-        if bus == Bus::Iso9141 {
-            for (class, case) in messages(random) {
-                self.compare_one(archive, class, &case, random);
-            }
+        match bus {
+            Bus::J1850 => self.compare_each_response(archive, random),
+            Bus::Iso9141 => self.compare_each_message(archive, random),
         }
         for runs in accepted_runs(bus, random) {
             self.change_each_byte(archive, bus, &runs, random);
@@ -41,7 +42,13 @@ impl Outcome {
         self
     }
 
-    fn compare_one(&mut self, archive: Archive, class: &str, case: &Case, random: &mut Random) {
+    fn compare_each_message(&mut self, archive: Archive, random: &mut Random) {
+        for (class, case) in messages(random) {
+            self.compare_one(archive, class, &case, random);
+        }
+    }
+
+    pub fn compare_one(&mut self, archive: Archive, class: &str, case: &Case, random: &mut Random) {
         if self.differences.len() < ENOUGH {
             self.counts.count(class);
             self.compare(archive, case, &case.answer(), random);

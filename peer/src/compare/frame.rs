@@ -11,7 +11,7 @@ use crate::random::Random;
 const WRITTEN_AGAIN: &str = "written again";
 const READ_BACK: &str = "read back";
 
-/// Compares `count` random cases of J1850, and each changed byte.
+/// Compares `count` random cases of J1850, and all that is tried whole.
 pub fn run(archive: Archive, count: u64, seed: u64) -> Outcome {
     run_on(Bus::J1850, "frame", archive, count, seed)
 }

@@ -147,10 +147,10 @@ pub fn lengthen(run: &mut Vec<u8>, others: usize, random: &mut Random) {
     run.extend(added);
 }
 
-/// A bit, a byte, the place of EOD, the end of a run, or the response's check
-/// byte.
+/// A bit, a byte, the place of EOD, the end of a run, bytes more behind the
+/// response, or its check byte.
 fn spoil_frame(runs: &mut Runs, random: &mut Random) {
-    match random.below(8) {
+    match random.below(9) {
         0 => random.flip_bit(&mut runs.0),
         1 => random.flip_bit(&mut runs.1),
         2 => move_end_of_data(runs, random),
@@ -158,6 +158,7 @@ fn spoil_frame(runs: &mut Runs, random: &mut Random) {
         4 => runs.1.truncate(random.below(3)),
         5 => std::mem::swap(&mut runs.0, &mut runs.1),
         6 => set_bare_header(runs, random),
+        7 => runs.1.extend(few_bytes(random)),
         _ => set_check_over_frame(runs, random),
     }
 }
