@@ -1,6 +1,7 @@
 //! Vector files: one case a line, and one line of expected output for each.
 
 pub mod frame;
+mod frame_counts;
 mod frame_iso_reads;
 mod frame_iso_writes;
 mod frame_reads;

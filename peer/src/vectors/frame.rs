@@ -1,6 +1,7 @@
 //! The vector files of the frame layer.
 
-use super::{frame_iso_reads, frame_iso_writes, frame_reads, frame_writes, Files, Format};
+use super::{frame_counts, frame_iso_reads, frame_iso_writes, frame_reads, frame_writes};
+use super::{Files, Format};
 use crate::case::{Call, Case};
 use crate::random::Random;
 use crate::text::{hex, hex_answer, hex_field};
@@ -29,6 +30,8 @@ pub fn make() -> (Files, String, Vec<String>) {
         frame_writes::cases,
         frame_iso_reads::cases,
         frame_iso_writes::cases,
+        // the last, so that the random bytes of the others stay
+        frame_counts::cases,
     ] {
         files.add_all(&FORMAT, &cases(&mut random));
     }

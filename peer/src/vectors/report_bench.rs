@@ -46,6 +46,7 @@ pub fn all() -> Vec<Bench> {
         full_frames(),
         values(),
         frames_refused(),
+        wrong_counts(),
         easy_errors(),
         report_iso_bench::all(),
     ];
@@ -165,6 +166,25 @@ fn frames_refused() -> Vec<Bench> {
         refused("P12", with_first(vec![0x08, 0x6B, 0x10]), 2),
         refused("P13", with_first(long), 1),
     ]
+}
+
+/// The whole report's frame with a response, and frames of other types with the
+/// counts that these cannot have.
+fn wrong_counts() -> Vec<Bench> {
+    let counts: [(&str, u8, &[u8], u64); 6] = [
+        ("K = 1 and a response", 0x48, &[0x6B], 50),
+        ("kind 1 and no response", 0x41, &[], 51),
+        ("kind 2 and no response", 0x40, &[], 51),
+        ("kind 3 and no response", 0x43, &[], 51),
+        ("kind 3 and one byte", 0x43, &[0xAB], 52),
+        ("kind 1 and two bytes", 0x41, &[0x6B, 0x6C], 53),
+    ];
+    let benches = counts.map(|(name, first_byte, response, number)| {
+        let first = checked(&[first_byte, 0x6B, 0x10, 0x41, 0x65, 0x80]);
+        let case = Case::report(layout(&[]), (first, response.to_vec()));
+        refused(name, case, number)
+    });
+    benches.into()
 }
 
 fn easy_errors() -> Vec<Bench> {

@@ -98,7 +98,10 @@ fn runs(bus: Bus, number: u8, random: &mut Random) -> Runs {
             (sound, Vec::new())
         }
         4 => (bus.checked(&[0x05, 0x6B, 0x10]), Vec::new()),
-        5 => (bus.checked(&[0x00, 0x6B, 0x10]), Vec::new()),
+        50 => (sound, vec![0x6B]),
+        51 => (bus.checked(&[0x00, 0x6B, 0x10]), Vec::new()),
+        52 => (bus.checked(&[0x13, 0x41]), vec![7]),
+        53 => (bus.checked(&[0x11, 0x41]), vec![7, 7]),
         6 => (bus.checked(&[0x13, 0x41]), vec![7, 7]),
         9 => (bus.checked(&[0x58, 0x6B, 0x10, 0x41]), Vec::new()),
         _ => (sound, Vec::new()),
@@ -126,7 +129,7 @@ fn bench_layout() -> Bytes {
 pub fn refusals(bus: Bus, random: &mut Random) -> Vec<Case> {
     let mut list = Vec::new();
     let of_frames: &[u8] = match bus {
-        Bus::J1850 => &[0, 1, 2, 3, 4, 5, 6],
+        Bus::J1850 => &[0, 1, 2, 3, 4, 50, 51, 52, 53, 6],
         Bus::Iso9141 => &[0, 1, 2, 3, 9],
     };
     for of_frame in of_frames {
