@@ -92,9 +92,9 @@ bool bus_accepts(const struct bus *bus, const struct runs *runs)
     return !bus_response_fault(bus, &runs->response) && RAKHUBOLE_REFUSAL(bus->read(runs)) == 0;
 }
 
-const char *bus_refusal_words(const struct bus *bus, unsigned refusal)
+const char *bus_sending_words(const struct bus *bus, unsigned refusal)
 {
-    return refusal == RAKHUBOLE_HEADER_LENGTH_WRONG ? bus->header_fault : refusal_words(refusal);
+    return refusal == RAKHUBOLE_HEADER_LENGTH_WRONG ? bus->header_fault : sending_words(refusal);
 }
 
 const char *bus_response_words(const struct bus *bus, unsigned response_kind)

@@ -47,7 +47,7 @@ bool bus_accepts(const struct bus *bus, const struct runs *runs);
 /* What a response kind asks for, in words. */
 const char *bus_response_words(const struct bus *bus, unsigned response_kind);
 
-/* A refusal of reader, writer or report in words. */
-const char *bus_refusal_words(const struct bus *bus, unsigned refusal);
+/* A refusal of the writer in words. */
+const char *bus_sending_words(const struct bus *bus, unsigned refusal);
 
 #endif

@@ -4,6 +4,7 @@
 #include "hex.h"
 #include "message.h"
 #include "rakhubole.h"
+#include "words.h"
 
 #include <string.h>
 
@@ -69,7 +70,7 @@ int command_frame(const struct arguments *arguments)
     uint64_t answer = arguments->bus->read(&runs);
     unsigned refusal = RAKHUBOLE_REFUSAL(answer);
     if (refusal != 0)
-        printf("refused: %s (%u)\n", bus_refusal_words(arguments->bus, refusal), refusal);
+        printf("refused: %s (%u)\n", refusal_words(refusal), refusal);
     else
         put_parts(arguments->bus, &runs, answer);
     return refusal != 0 ? STATUS_REFUSED : STATUS_DONE;
@@ -111,7 +112,7 @@ int command_send(const struct arguments *arguments)
     uint64_t answer = arguments->bus->write(parts, out);
     unsigned refusal = RAKHUBOLE_REFUSAL(answer);
     if (refusal != 0) {
-        complain("nothing to send, refused: %s (%u)", bus_refusal_words(arguments->bus, refusal),
+        complain("nothing to send, refused: %s (%u)", bus_sending_words(arguments->bus, refusal),
                  refusal);
         return STATUS_REFUSED;
     }

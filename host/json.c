@@ -178,7 +178,7 @@ static void json_refused(const struct entry *entry, unsigned refusal)
 {
     put_entry(entry);
     put_count("refusal", refusal);
-    put_text("reason", bus_refusal_words(entry->bus, refusal));
+    put_text("reason", refusal_words(refusal));
     fputs("}\n", stdout);
 }
 

@@ -208,8 +208,8 @@ static void table_reading(const struct entry *entry, const struct reading *readi
 static void table_refused(const struct entry *entry, unsigned refusal)
 {
     put_entry(entry);
-    printf("  %srefused: %s (%u)%s\n\n", color_on(COLOR_RED),
-           bus_refusal_words(entry->bus, refusal), refusal, color_off(COLOR_RED));
+    printf("  %srefused: %s (%u)%s\n\n", color_on(COLOR_RED), refusal_words(refusal), refusal,
+           color_off(COLOR_RED));
 }
 
 /* What the adapter says, and what that means. */

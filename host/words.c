@@ -11,7 +11,6 @@ const char *refusal_words(unsigned refusal)
     case RAKHUBOLE_FIRST_RUN_SHORT: return "shorter than its header and check byte";
     case RAKHUBOLE_CHECK_BYTE_WRONG: return "the check byte is wrong";
     case RAKHUBOLE_TYPE_UNASSIGNED: return "the message type is unassigned";
-    case RAKHUBOLE_RESPONSE_COUNT_WRONG: return "the wrong number of response bytes for its type";
     case RAKHUBOLE_RESPONSE_CHECK_BYTE_WRONG: return "the check byte of the response is wrong";
     case RAKHUBOLE_HEADER_LENGTH_WRONG: return "the header has the wrong length";
     case RAKHUBOLE_OUT_TOO_SHORT: return "the lent output is too short";
@@ -23,7 +22,26 @@ const char *refusal_words(unsigned refusal)
     case RAKHUBOLE_FIELD_OUT_OF_RANGE: return "a field is outside its range";
     case RAKHUBOLE_KEY_TWICE: return "already in an earlier record";
     case RAKHUBOLE_KEY_IN_SAE: return "already in the SAE tables";
+    case RAKHUBOLE_RESPONSE_FORBIDDEN:
+        return "a module answered unasked: this message allows no response";
+    case RAKHUBOLE_RESPONSE_MISSING:
+        return "the module did not answer, or the adapter left its answer out";
+    case RAKHUBOLE_RESPONSE_TOO_FEW:
+        return "the answer was cut short: this message needs data and a check byte";
+    case RAKHUBOLE_RESPONSE_TOO_MANY:
+        return "more than one module answered, or one chatters: one byte is allowed";
     default: return "a refusal without words";
+    }
+}
+
+const char *sending_words(unsigned refusal)
+{
+    switch (refusal) {
+    case RAKHUBOLE_RESPONSE_FORBIDDEN: return "this message allows no response, and one is given";
+    case RAKHUBOLE_RESPONSE_MISSING: return "this message needs a response, and none is given";
+    case RAKHUBOLE_RESPONSE_TOO_MANY:
+        return "this message allows one response byte, and more are given";
+    default: return refusal_words(refusal);
     }
 }
 

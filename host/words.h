@@ -4,8 +4,11 @@
 
 #include "format.h"
 
-/* Each gives words for any number; a form that is none gives NULL. */
+/* Each gives words for any number; a form that is none gives NULL. Those of a
+ * refusal are for what was read, where a module may be at fault; sending_words
+ * are for what is to be sent, of which no module knows yet. */
 const char *refusal_words(unsigned refusal);
+const char *sending_words(unsigned refusal);
 const char *unknown_words(unsigned unknown);
 const char *row_word(unsigned row_kind);
 const char *verdict_word(unsigned verdict);
