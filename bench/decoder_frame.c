@@ -33,16 +33,20 @@ static size_t header_length_of(uint8_t first_byte)
     return first_byte & BIT_H ? 1 : 3;
 }
 
-/* Whether a response of that kind has the right count; `checks` is 1 where
- * the count includes the check byte of kind 3. */
-static bool response_count_fits(unsigned kind, size_t length, size_t checks)
+/* The refusal of a response's count, or 0. `checks` is 1 where the count
+ * includes the check byte of kind 3: a writer's does not, so that it never has
+ * too few. */
+static unsigned count_refusal(unsigned kind, size_t length, size_t checks)
 {
-    switch (kind) {
-    case 0: return length == 0;
-    case 1: return length == 1;
-    case 2: return length >= 1;
-    default: return length >= 1 + checks;
-    }
+    if (kind == 0)
+        return length == 0 ? 0 : RAKHUBOLE_RESPONSE_FORBIDDEN;
+    if (length == 0)
+        return RAKHUBOLE_RESPONSE_MISSING;
+    if (kind == 3 && length < 1 + checks)
+        return RAKHUBOLE_RESPONSE_TOO_FEW;
+    if (kind == 1 && length > 1)
+        return RAKHUBOLE_RESPONSE_TOO_MANY;
+    return 0;
 }
 
 void split_run(const uint8_t *run, size_t length, size_t header_length, struct frame *frame)
@@ -65,8 +69,9 @@ unsigned read_frame(const uint8_t *first, size_t first_length, const uint8_t *re
     unsigned kind = response_kinds[first[0] & TYPE_BITS];
     if (kind == UNASSIGNED)
         return RAKHUBOLE_TYPE_UNASSIGNED;
-    if (!response_count_fits(kind, response_length, 1))
-        return RAKHUBOLE_RESPONSE_COUNT_WRONG;
+    unsigned refusal = count_refusal(kind, response_length, 1);
+    if (refusal)
+        return refusal;
     if (kind == 3 && !ends_in_check_byte(response, response_length))
         return RAKHUBOLE_RESPONSE_CHECK_BYTE_WRONG;
     split_run(first, first_length, header_length_of(first[0]), frame);
@@ -117,8 +122,9 @@ uint64_t decoder_write(const uint8_t *header, size_t header_length, const uint8_
     unsigned kind = response_kinds[header[0] & TYPE_BITS];
     if (kind == UNASSIGNED)
         return RAKHUBOLE_TYPE_UNASSIGNED;
-    if (!response_count_fits(kind, response_length, 0))
-        return RAKHUBOLE_RESPONSE_COUNT_WRONG;
+    unsigned refusal = count_refusal(kind, response_length, 0);
+    if (refusal)
+        return refusal;
     size_t length = frame_length(header_length, data_length, response_length, kind);
     if (length > FRAME_MOST)
         return RAKHUBOLE_OVER_TWELVE_BYTES;
