@@ -12,14 +12,18 @@ static const char *const words[WORDS] = {
 };
 
 /* Every refusal, kind and reason is below this. */
-#define NUMBERS 16
+#define NUMBERS 64
+#define ONE(number) (UINT64_C(1) << (number))
 /* A bit for each number from one to the other. */
-#define SPAN(low, high) ((2u << (high)) - (1u << (low)))
-#define ONE(number) (1u << (number))
-#define FRAME_REFUSALS SPAN(RAKHUBOLE_OVER_TWELVE_BYTES, RAKHUBOLE_RESPONSE_CHECK_BYTE_WRONG)
+#define SPAN(low, high) (2 * ONE(high) - ONE(low))
+#define COUNT_REFUSALS SPAN(RAKHUBOLE_RESPONSE_FORBIDDEN, RAKHUBOLE_RESPONSE_TOO_MANY)
+#define FRAME_REFUSALS                                                                           \
+    (SPAN(RAKHUBOLE_OVER_TWELVE_BYTES, RAKHUBOLE_TYPE_UNASSIGNED) | COUNT_REFUSALS |             \
+     ONE(RAKHUBOLE_RESPONSE_CHECK_BYTE_WRONG))
+/* A writer is given responses without check bytes, none of which has too few. */
 #define WRITE_REFUSALS                                                                           \
-    (ONE(RAKHUBOLE_OVER_TWELVE_BYTES) |                                                          \
-     SPAN(RAKHUBOLE_TYPE_UNASSIGNED, RAKHUBOLE_RESPONSE_COUNT_WRONG) |                           \
+    (ONE(RAKHUBOLE_OVER_TWELVE_BYTES) | ONE(RAKHUBOLE_TYPE_UNASSIGNED) |                         \
+     (COUNT_REFUSALS & ~ONE(RAKHUBOLE_RESPONSE_TOO_FEW)) |                                       \
      SPAN(RAKHUBOLE_HEADER_LENGTH_WRONG, RAKHUBOLE_OUT_TOO_SHORT))
 #define MESSAGE_REFUSALS                                                                         \
     (SPAN(RAKHUBOLE_OVER_TWELVE_BYTES, RAKHUBOLE_CHECK_BYTE_WRONG) |                             \
@@ -34,7 +38,7 @@ static const char *const words[WORDS] = {
 #define UNKNOWNS SPAN(RAKHUBOLE_UNKNOWN_PRN, RAKHUBOLE_UNKNOWN_LAYOUT)
 
 /* The numbers that the inputs of a call must reach. */
-static const uint16_t wanted[][WORDS] = {
+static const uint64_t wanted[][WORDS] = {
     [CALL_READ] = {[REFUSED] = FRAME_REFUSALS, [KIND] = SPAN(0, 3)},
     [CALL_WRITE] = {[REFUSED] = WRITE_REFUSALS},
     [CALL_CHECK] = {[REFUSED] = SUPPLEMENT_REFUSALS},
