@@ -97,6 +97,29 @@ static uint64_t answer_in(struct arena *arena, const struct calls *calls,
     return answer_of(calls, &mine);
 }
 
+/* An archive before version 2.0 refuses with 5 where a later one says with 50 to
+ * 53 what is wrong with the response's count. */
+#define WITHDRAWN 5
+/* How often each of these stood where 5 was. */
+static unsigned long at_its_place[RAKHUBOLE_RESPONSE_TOO_MANY + 1];
+
+/* Whether the answers are the same, but for that refusal; counts those. */
+static bool is_answer_alike(uint64_t before, uint64_t now)
+{
+    if (before != WITHDRAWN)
+        return before == now;
+    if (now < RAKHUBOLE_RESPONSE_FORBIDDEN || now > RAKHUBOLE_RESPONSE_TOO_MANY)
+        return false;
+    at_its_place[now]++;
+    return true;
+}
+
+static void show_at_its_place(void)
+{
+    for (int now = RAKHUBOLE_RESPONSE_FORBIDDEN; now <= RAKHUBOLE_RESPONSE_TOO_MANY; now++)
+        printf("%d before, %d now: %lu\n", WITHDRAWN, now, at_its_place[now]);
+}
+
 /* Both leave the same bytes, and all but the output as they were. */
 static bool is_memory_alike(const struct request *request)
 {
@@ -147,8 +170,8 @@ static void try_case(const struct request *request, const char *where)
     lend_all(request);
     for (int who = 0; who < 2; who++)
         answers[who] = answer_in(&left[who], both[who], request);
-    if (answers[0] == answers[1] && is_memory_alike(request))
-        count_classes(request, answers[0], left[0].bytes + lent.places[MOST_RUNS]);
+    if (is_answer_alike(answers[0], answers[1]) && is_memory_alike(request))
+        count_classes(request, answers[1], left[1].bytes + lent.places[MOST_RUNS]);
     else if (differences++ == 0)
         show_case(request, where, answers);
 }
@@ -409,6 +432,7 @@ int main(int count, char **words)
         return 1;
     try_random_cases(wanted);
     show_calls();
+    show_at_its_place();
     printf("%lu cases, %lu differ\n", cases, differences);
     return differences ? 1 : 0;
 }
