@@ -17,6 +17,7 @@ enum fault {
     WRITTEN_BEFORE_OUTPUT,
     INPUT_CHANGED,
     REFUSED_BUT_WRITTEN,
+    TOO_FEW_AS_MISSING,
     /* of a report on ISO 9141-2 */
     FIRST_BYTE_BEFORE_SUM,
     WRITTEN_BEHIND_ROWS
@@ -59,6 +60,8 @@ static uint64_t faulty_report(const uint8_t *supplement, size_t supplement_lengt
     case WRITTEN_BEFORE_OUTPUT: set_byte_of(out, out_length, -1); break;
     case INPUT_CHANGED: set_byte_of(supplement, supplement_length, 0); break;
     case REFUSED_BUT_WRITTEN: set_byte_of(out, !accepted && out_length, 0); break;
+    case TOO_FEW_AS_MISSING:
+        return answer == RAKHUBOLE_RESPONSE_TOO_FEW ? RAKHUBOLE_RESPONSE_MISSING : answer;
     default: break;
     }
     return answer;
