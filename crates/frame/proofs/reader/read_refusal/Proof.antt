@@ -106,7 +106,9 @@ counted :
     → c .count-refusal .result ≡ (let a = start4 (c .before) .args in countRefusal (kindAsked (a .first .now)) DataSent (length (a .response .now)))
 counted c =
     let n = length (start4 (c .before) .args .response .now) in
-    c .count-refusal .ensures ∙ ap (λ k. countRefusal k DataSent n) (c .before .before .before .kind-asked .ensures)
+    let kind = c .before .before .before .kind-asked in
+    let told : c .count-refusal .result ≡ countRefusal (kind .result) DataSent n = c .count-refusal .ensures in
+    told ∙ ap (λ k. countRefusal k DataSent n) (kind .ensures)
 
 returns-5 : tie.Need-returns-5
 unfolding readRules readRulesWith

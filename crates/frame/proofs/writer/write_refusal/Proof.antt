@@ -75,7 +75,9 @@ counted :
     → c .count-refusal .result ≡ (let a = start2 (c .before) .args in countRefusal (kindAsked (a .header .now)) DataGiven (length (a .response .now)))
 counted c =
     let n = length (start2 (c .before) .args .response .now) in
-    c .count-refusal .ensures ∙ ap (λ k. countRefusal k DataGiven n) (c .before .before .before .kind-asked .ensures)
+    let kind = c .before .before .before .kind-asked in
+    let told : c .count-refusal .result ≡ countRefusal (kind .result) DataGiven n = c .count-refusal .ensures in
+    told ∙ ap (λ k. countRefusal k DataGiven n) (kind .ensures)
 
 returns-3 : tie.Need-returns-3
 unfolding writeRules writeRulesWith
