@@ -23,7 +23,7 @@ Other n = (isCountRefusal n ≡ false) × (eqb n CountWrong ≡ false)
 
 -- What holds of two lists of rules before any others holds of them at the count's place.
 module _ (R : ℕ → ℕ → Type 0) (own : (n : ℕ) → Other n → R n n) (these those : List Rule)
-    (placed : (others : List Rule) → R (firstBroken others) (firstBroken others) → R (firstBroken (these ++ others)) (firstBroken (those ++ others)))
+    (ahead : (others : List Rule) → R (firstBroken others) (firstBroken others) → R (firstBroken (these ++ others)) (firstBroken (those ++ others)))
   where
     end : R (firstBroken []) (firstBroken [])
     end = at-end R (own NoRefusal (refl, refl))
@@ -34,7 +34,7 @@ module _ (R : ℕ → ℕ → Type 0) (own : (n : ℕ) → Other n → R n n) (t
         through R _ _ _ (own TooLong (refl, refl))
         (through R _ _ _ (own TooShort (refl, refl))
         (through R _ _ _ (own CheckWrong (refl, refl))
-        (through R _ _ _ (own TypeUnassigned (refl, refl)) (placed _ (through R _ [] [] (own ResponseCheckWrong (refl, refl)) end)))))
+        (through R _ _ _ (own TypeUnassigned (refl, refl)) (ahead _ (through R _ [] [] (own ResponseCheckWrong (refl, refl)) end)))))
 
     pub in-writer :
         (header body response : List ℕ) (room : ℕ)
@@ -43,7 +43,7 @@ module _ (R : ℕ → ℕ → Type 0) (own : (n : ℕ) → Other n → R n n) (t
     in-writer header body response room =
         through R _ _ _ (own HeaderWrong (refl, refl))
         (through R _ _ _ (own TypeUnassigned (refl, refl))
-        (placed _ (through R _ _ _ (own TooLong (refl, refl)) (through R _ [] [] (own OutputShort (refl, refl)) end))))
+        (ahead _ (through R _ _ _ (own TooLong (refl, refl)) (through R _ [] [] (own OutputShort (refl, refl)) end))))
 
 -- Every other number stands where it did.
 pub split-other : (n : ℕ) → Other n → Split n n

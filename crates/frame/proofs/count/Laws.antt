@@ -27,18 +27,18 @@ module _ (kind : ResponseKind) (ofData n : ℕ) where
   unfolding countRules
   count-numbered = (lit< tt, (lit< tt, (lit< tt, (lit< tt, tt))))
 
-  pub counts : countRefusal kind ofData n ≡ NoRefusal → CountKept kind ofData n
+  pub count-kept : countRefusal kind ofData n ≡ NoRefusal → CountKept kind ofData n
   unfolding countRefusal countRules
-  counts e =
-      let fifty = none-broken _ _ e (lit< tt) in
-      let next = none-broken _ _ (fifty .1) (lit< tt) in
-      let third = none-broken _ _ (next .1) (lit< tt) in
-      let last = none-broken _ _ (third .1) (lit< tt) in
-      record { allowed = fifty .0; something = next .0; enough = third .0; single = last .0 }
+  count-kept e =
+      let forbidden = none-broken _ _ e (lit< tt) in
+      let missing = none-broken _ _ (forbidden .1) (lit< tt) in
+      let too-few = none-broken _ _ (missing .1) (lit< tt) in
+      let too-many = none-broken _ _ (too-few .1) (lit< tt) in
+      record { allowed = forbidden .0; something = missing .0; enough = too-few .0; single = too-many .0 }
 
-  pub uncounted : CountKept kind ofData n → countRefusal kind ofData n ≡ NoRefusal
+  pub count-unrefused : CountKept kind ofData n → countRefusal kind ofData n ≡ NoRefusal
   unfolding countRefusal countRules
-  uncounted k = kept _ _ (k .allowed) ∙ kept _ _ (k .something) ∙ kept _ _ (k .enough) ∙ last-kept _ (k .single)
+  count-unrefused k = kept _ _ (k .allowed) ∙ kept _ _ (k .something) ∙ kept _ _ (k .enough) ∙ last-kept _ (k .single)
 
   -- The four among other rules: one that is broken gives its number; where none is, those behind them decide.
   module _ (others : List Rule) where
@@ -110,18 +110,14 @@ unchecked false n = refl
 module _ (kind : ResponseKind) (n : ℕ) where
   pub sent-right : (countRefusal kind DataSent n ≡ NoRefusal) ↔ (wrongCount kind (responseSize kind n) ≡ false)
   unfolding responseSize
-  sent-right = (λ e. right-count kind 1 n (counts kind DataSent n e), λ e. uncounted kind DataSent n (kept-count kind 1 n e))
+  sent-right = (λ e. right-count kind 1 n (count-kept kind DataSent n e), λ e. count-unrefused kind DataSent n (kept-count kind 1 n e))
 
   pub given-right : (countRefusal kind DataGiven n ≡ NoRefusal) ↔ (wrongCount kind n ≡ false)
   given-right =
       let m = unchecked (isChecked kind) n in (
-        λ e. ap (wrongCount kind) (sym m) ∙ right-count kind 0 n (counts kind DataGiven n e),
-        λ e. uncounted kind DataGiven n (kept-count kind 0 n (ap (wrongCount kind) m ∙ e)),
+        λ e. ap (wrongCount kind) (sym m) ∙ right-count kind 0 n (count-kept kind DataGiven n e),
+        λ e. count-unrefused kind DataGiven n (kept-count kind 0 n (ap (wrongCount kind) m ∙ e)),
       )
-
-once : (t : Bool) → cond t 1 0 ≤ 1
-once true = omega arith
-once false = omega arith
 
 -- A kind 3 response that the writer takes has data.
 pub data-given : (kind : ResponseKind) (n : ℕ) → wrongCount kind n ≡ false → kind ≡ Data → 0 < n
@@ -145,6 +141,11 @@ counted-alike Data n some =
       second-fails (ltb 0 (n + 1)) (ltb (n + 1) 2) (le-ltb (n + 1) 2 (omega (arith, h))),
     )
 counted-alike Unassigned n some = refl
+
+-- A rule counts once, if it is broken.
+once : (t : Bool) → cond t 1 0 ≤ 1
+once true = omega arith
+once false = omega arith
 
 -- Of the four at most one is broken.
 pub one-at-most : (kind : ResponseKind) (ofData n : ℕ) → timesBroken (countRules kind ofData n) ≤ 1
