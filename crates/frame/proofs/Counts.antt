@@ -27,6 +27,7 @@ read-split first response =
     let n = length response in
     in-reader Split split-other _ _ (count-split kind DataSent n (responseSize kind n) (sent-right kind n)) first response
 
+-- The same of the writer: "one of 50 to 53 is given exactly where 5 was".
 pub write-split :
     (header body response : List ℕ) (room : ℕ)
     → Split (writeRefusal header body response room) (formerWriteRefusal header body response room)
@@ -57,6 +58,7 @@ read-any-order first response rules d =
     let once = one-at-most (kindAsked first) DataSent (length response) in
     in-reader (_≡_ {A = ℕ}) (λ n o. refl) _ rules (λ others e. any-order others d once) first response
 
+-- The same of the writer: "their order decides nothing".
 pub write-any-order :
     (header body response : List ℕ) (room : ℕ) (rules : List Rule)
     → List·Permᴰ (countRules (kindAsked header) DataGiven (length response)) rules

@@ -5,7 +5,7 @@ use mathlib.Core.List.{map}
 use lib.Ieee.{ofInt, div}
 use Rattle.frame.specs.Header.{headerSize}
 use Rattle.frame.specs.Refusal.{firstBroken}
-use Rattle.frame.specs.Reader.{readRules, readRefusal}
+use Rattle.frame.specs.Reader.{readRulesWith, readRules, readRefusal}
 use Rattle.frame.specs.Seal.{isSealedBy}
 use Rattle.frame.specs.Iso.{sum, sumByte, wrongFirst, isoReadRules, isoReadRefusal}
 use Rattle.catalogue.specs.Rows.{inOrder}
@@ -18,7 +18,7 @@ use Rattle.report_vectors.specs.BenchCases.{benchCases, isoCases, lineBy
 -- In every case of the table the definitions answer what is expected.
 pub bench-cases-hold : map answered benchCases ≡ map expected benchCases
 unfolding benchCases answered expected lineBy formLine withinLimits inOrder pattern numberLine above rawNumber signed ofInt div
-    saeSlot firstWhere slotRows readRefusal readRules firstBroken headerSize
+    saeSlot firstWhere slotRows readRefusal readRules readRulesWith firstBroken headerSize
 bench-cases-hold = refl
 
 pub iso-cases-hold : map answered isoCases ≡ map expected isoCases
