@@ -70,6 +70,7 @@ none-among rs qs n e =
     (λ t. let z = eqb-true (firstBroken rs) 0 t in (z, sym (past rs qs n z) ∙ e))
     (λ f. let z = eqb-false (firstBroken rs) 0 f in absurd (z (sym (among rs qs z) ∙ e)))
 
+-- What stands behind some rules may be replaced by what gives the same.
 pub same-behind : (rs xs ys : List Rule) → firstBroken xs ≡ firstBroken ys → firstBroken (rs ++ xs) ≡ firstBroken (rs ++ ys)
 unfolding firstBroken
 same-behind [] xs ys e = e

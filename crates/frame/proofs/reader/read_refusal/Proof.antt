@@ -1,5 +1,6 @@
 -- Each test is its rule; a test that is passed leaves the rules after it.
 use mathlib.Core.Path.{_≡_, sym, ap, _∙_}
+use mathlib.Core.List.{[]}
 use Prim.Native.Nat.{ℕ, _+_}
 use native.Mathlib.Omega.{arith}
 use borrow.Author.Needs.{needs}
@@ -7,7 +8,7 @@ use borrow.Author.Tests.{lt-ltb, le-ltb}
 use lib.ListN.{length, drop}
 use Rattle.frame.specs.CheckByte.{isSealed}
 use Rattle.frame.specs.Response.{isUnassigned, isChecked}
-use Rattle.frame.specs.Count.{countRules, countRefusal, DataSent}
+use Rattle.frame.specs.Count.{countRefusal, DataSent}
 use Rattle.frame.specs.Header.{kindAsked}
 use Rattle.frame.specs.Frame.{MostBytes}
 use Rattle.frame.specs.Refusal.{firstBroken}
@@ -23,6 +24,12 @@ abbrev Passed : ℕ → tie.Start → Type 0
 Passed n s =
     let a = s .args in
     readRefusal (a .first .now) (a .response .now) ≡ firstBroken (drop n (readRules (a .first .now) (a .response .now)))
+
+-- These four are kept, and so are the rules of the count: what is left is as if there were none.
+abbrev Counted : tie.Start → Type 0
+Counted s =
+    let a = s .args in
+    readRefusal (a .first .now) (a .response .now) ≡ firstBroken (drop 4 (readRulesWith [] (a .first .now) (a .response .now)))
 
 -- How many bytes both runs have.
 abbrev total : tie.Start → ℕ
@@ -116,8 +123,8 @@ returns-5 c =
     let told = counted (c .before) in
     told ∙ sym (past4 (c .before .before) ∙ count-given _ DataSent _ _ (λ z. c .if5 .taken (told ∙ z)))
 
-past5 : (c : tie.Else5) → Passed 8 (start5 c)
-unfolding readRules readRulesWith countRules
+past5 : (c : tie.Else5) → Counted (start5 c)
+unfolding readRules readRulesWith
 past5 c = past4 (c .before .before) ∙ count-past _ DataSent _ _ (sym (counted (c .before)) ∙ c .if5 .left)
 
 is-checked-requires : tie.Need-is-checked-requires
@@ -133,21 +140,21 @@ response-sealed : (c : tie.After-is-sealed2) → isSealed (start5 (c .before .be
 response-sealed c = sym (c .is-sealed2 .ensures)
 
 returns-6 : tie.Need-returns-6
-unfolding readRules readRulesWith countRules
+unfolding readRulesWith
 returns-6 c =
     let asked = c .before .before .before in
     let is = c .before .before .if6 .taken in
     sym (past5 (asked .before) ∙ broken _ _ (rw (checked asked, is, response-sealed (c .before)) (c .if7 .taken)))
 
 returns-7 : tie.Need-returns-7
-unfolding readRules readRulesWith countRules
+unfolding readRulesWith
 returns-7 c =
     let asked = c .before .before .before in
     let is = c .before .before .if6 .taken in
     sym (past5 (asked .before) ∙ last-kept _ (rw (checked asked, is, response-sealed (c .before)) (c .if7 .left)))
 
 returns-8 : tie.Need-returns-8
-unfolding readRules readRulesWith countRules
+unfolding readRulesWith
 returns-8 c = sym (past5 (c .before .before) ∙ last-kept _ (rw (checked (c .before), c .if6 .left)))
 
 pub read-refusal-spec : {M : Type 1} → statement M

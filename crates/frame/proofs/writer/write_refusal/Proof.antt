@@ -1,13 +1,14 @@
 -- Each test is its rule; a test that is passed leaves the rules after it.
 use mathlib.Core.Path.{_≡_, sym, ap, _∙_}
 use mathlib.Core.Bool.{not}
+use mathlib.Core.List.{[]}
 use Prim.Native.Nat.{ℕ}
 use native.Mathlib.Omega.{arith}
 use borrow.Author.Needs.{needs}
 use borrow.Author.Tests.{lt-ltb, le-ltb, eq-eqb, ne-eqb}
 use lib.ListN.{length, drop}
 use Rattle.frame.specs.Response.{isUnassigned}
-use Rattle.frame.specs.Count.{countRules, countRefusal, DataGiven}
+use Rattle.frame.specs.Count.{countRefusal, DataGiven}
 use Rattle.frame.specs.Header.{kindAsked}
 use Rattle.frame.specs.Refusal.{firstBroken}
 use Rattle.frame.specs.Writer.{writeRulesWith, writeRules, writeRefusal}
@@ -24,6 +25,13 @@ Passed n s =
     let a = s .args in
     writeRefusal (a .header .now) (a .body .now) (a .response .now) (a .room)
     ≡ firstBroken (drop n (writeRules (a .header .now) (a .body .now) (a .response .now) (a .room)))
+
+-- The first n rules and those of the count are kept: what is left is as if the count had none.
+abbrev Counted : ℕ → tie.Start → Type 0
+Counted n s =
+    let a = s .args in
+    writeRefusal (a .header .now) (a .body .now) (a .response .now) (a .room)
+    ≡ firstBroken (drop n (writeRulesWith [] (a .header .now) (a .body .now) (a .response .now) (a .room)))
 
 -- Where the function started, seen from each test that was passed.
 abbrev start1 : tie.Else1 → tie.Start
@@ -85,19 +93,19 @@ returns-3 c =
     let told = counted (c .before) in
     told ∙ sym (past2 (c .before .before) ∙ count-given _ DataGiven _ _ (λ z. c .if3 .taken (told ∙ z)))
 
-past3 : (c : tie.Else3) → Passed 6 (start3 c)
-unfolding writeRules writeRulesWith countRules
+past3 : (c : tie.Else3) → Counted 2 (start3 c)
+unfolding writeRules writeRulesWith
 past3 c = past2 (c .before .before) ∙ count-past _ DataGiven _ _ (sym (counted (c .before)) ∙ c .if3 .left)
 
 returns-4 : tie.Need-returns-4
-unfolding writeRules writeRulesWith countRules
+unfolding writeRulesWith
 returns-4 c =
     let a = start3 (c .before) .args in
     let over = over-most (a .header .now) (a .body .now) (a .response .now) (omega (arith, c .if4 .taken)) in
     sym (past3 (c .before) ∙ broken _ _ over)
 
 returns-5 : tie.Need-returns-5
-unfolding writeRules writeRulesWith countRules
+unfolding writeRulesWith
 returns-5 c =
     let a = start3 (c .before .before) .args in
     let over = over-most (a .header .now) (a .body .now) (a .response .now) (omega (arith, c .if5 .taken)) in
@@ -110,21 +118,21 @@ frame-size-requires c κs =
     omega (arith, passed .if1 .left, passed .before .header-size .ensures, header-range header)
 
 returns-6 : tie.Need-returns-6
-unfolding writeRules writeRulesWith countRules
+unfolding writeRulesWith
 returns-6 c =
     let over = lt-ltb _ _ (rw (c .before .frame-size .ensures) at (c .if6 .taken)) in
     sym (past3 (c .before .before .before .before) ∙ broken _ _ over)
 
-past4 : (c : tie.Else6) → Passed 7 (start4 c)
-unfolding writeRules writeRulesWith countRules
+past4 : (c : tie.Else6) → Counted 3 (start4 c)
+unfolding writeRulesWith
 past4 c = past3 (c .before .before .before .before) ∙ kept _ _ (le-ltb _ _ (rw (c .before .frame-size .ensures) at (c .if6 .left)))
 
 returns-7 : tie.Need-returns-7
-unfolding writeRules writeRulesWith countRules
+unfolding writeRulesWith
 returns-7 c = sym (past4 (c .before) ∙ broken _ _ (lt-ltb _ _ (rw (c .before .before .frame-size .ensures) at (c .if7 .taken))))
 
 returns-8 : tie.Need-returns-8
-unfolding writeRules writeRulesWith countRules
+unfolding writeRulesWith
 returns-8 c = sym (past4 (c .before) ∙ last-kept _ (le-ltb _ _ (rw (c .before .before .frame-size .ensures) at (c .if7 .left))))
 
 pub write-refusal-spec : {M : Type 1} → statement M
