@@ -16,7 +16,7 @@ use Rattle.report.proofs.verdict.Laws.{any-is, any-of}
 
 -- The two tests say just that.
 flagged-shown : (ls : List Line) (l : Line) → List·Memᴰ l ls → isFlagged l ≡ true → ShowsFlagged ls
-flagged-shown ls (Number x) m e = absurd (true≢false (sym e))
+flagged-shown ls (Number x n d) m e = absurd (true≢false (sym e))
 flagged-shown ls (State n) m e = absurd (true≢false (sym e))
 flagged-shown ls (Bits n) m e = absurd (true≢false (sym e))
 flagged-shown ls (Text n) m e = absurd (true≢false (sym e))
@@ -33,7 +33,7 @@ any-flagged ls (inr (inl m)) = any-of isFlagged ls Short m refl
 any-flagged ls (inr (inr s)) = any-of isFlagged ls (Left (s .0)) (s .1) (ap not (ne-eqb (s .0) 0 (s .2)))
 
 unknown-shown : (ls : List Line) (l : Line) → List·Memᴰ l ls → isUnknown l ≡ true → ShowsUnknown ls
-unknown-shown ls (Number x) m e = absurd (true≢false (sym e))
+unknown-shown ls (Number x n d) m e = absurd (true≢false (sym e))
 unknown-shown ls (State n) m e = absurd (true≢false (sym e))
 unknown-shown ls (Bits n) m e = absurd (true≢false (sym e))
 unknown-shown ls (Text n) m e = absurd (true≢false (sym e))

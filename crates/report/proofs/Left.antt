@@ -29,7 +29,7 @@ use Rattle.report.proofs.scaling.Laws.{form-among}
 
 -- Where a line that is Short or lost leaves the place.
 abbrev stop : Line → Option Place
-stop (Number x) = none
+stop (Number x n d) = none
 stop (State n) = none
 stop (Bits n) = none
 stop (Text n) = none
@@ -45,7 +45,7 @@ slot-goes-on : (o : Option SlotRow) (row : PrnRow) (bytes : List ℕ) (at : ℕ)
 unfolding slotLine numberLine
 slot-goes-on none row bytes at = refl
 slot-goes-on (some slot) row bytes at =
-    form-among (λ (l : Line). stop l ≡ none) (row .form) (row .width) slot _ refl refl refl refl refl refl refl refl refl
+    form-among (λ (l : Line). stop l ≡ none) (row .form) (row .width) slot _ (λ _. refl) refl refl refl refl refl refl refl refl
 
 module _ (slots : ℕ → ℕ → ℕ → Option SlotRow) (bytes : List ℕ) where
   item-stops : (spot : Spot) (q : Place) → stop (itemLine slots bytes spot) ≡ some q → behind spot ≡ q

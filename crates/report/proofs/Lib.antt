@@ -1,5 +1,5 @@
 pub mod demand
-pub mod NoNan
+pub mod Fraction
 pub mod Left
 pub mod Judged
 pub mod Size

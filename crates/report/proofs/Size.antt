@@ -4,6 +4,7 @@ use mathlib.Core.List.{List, [], _∷_, _++_, map}
 use mathlib.Core.Option.{Option, none, some}
 use Prim.Native.Nat.{ℕ, _+_, _*_, _≤_}
 use native.Mathlib.Omega.{arith}
+use borrow.Author.Tests.{le-ltb}
 use lib.Dec.{eqb, ltb}
 use lib.ListN.{length, length-append}
 use Rattle.frame.specs.Frame.{Parts}
@@ -20,7 +21,7 @@ use Rattle.report.specs.declared.spots.Place.{Place}
 use Rattle.report.specs.declared.spots.Place.the-variants.{Bit, Lost, Past}
 use Rattle.report.specs.declared.line.Line.{Line}
 use Rattle.report.specs.Report.{Part, Message, messageOf, remainderAt, groupOf, groupLines, responseLine, reportOf, linesOf, verdict}
-use Rattle.report.specs.Rows.{DoubleRow, ByteRow, row, rowsOf, reportBytes}
+use Rattle.report.specs.Rows.{NumberRow, ByteRow, RowsMost, row, rowsOf, reportBytes}
 use Rattle.report.specs.Answer.{Answer, refused, shown, fitted, under, answerOf, reportAnswer, sized}
 use Rattle.report.proofs.rows.Laws.{rows-append, rows-snoc, rows-length}
 use Rattle.report.proofs.message.Laws.{items-most}
@@ -41,14 +42,10 @@ unfolding groupOf row
 group-remainder c none p = omega arith
 group-remainder c (some l) p = remainder-row (p .to) _
 
--- The bytes of a group at the most, and of a report of one group: nine for an item, two for its remainder, the response, the verdict.
+-- The bytes of a group at the most: at most sixteen items, none longer than a Number, and a remainder.
 abbrev groupBytes : ℕ
-groupBytes = DoubleRow * MostPrns + ByteRow
+groupBytes = NumberRow * MostPrns + ByteRow
 
-abbrev pub reportBytesMost : ℕ
-reportBytesMost = groupBytes + ByteRow + ByteRow
-
--- A group of at most sixteen items, each a row of nine bytes at the most, and a remainder.
 module _ (c : Catalogue) (o : Option LayoutRow) where
   -- Every part has at most sixteen PRNs.
   abbrev Sixteen : List Part → Type 0
@@ -72,8 +69,9 @@ module _ (c : Catalogue) (o : Option LayoutRow) where
         groups-most ps (h .1),
       )
 
--- The rows of any report are at most 150 bytes long, for it has one group.
-pub rows-most : (s : List ℕ) (p : Parts) → length (reportBytes (under s p)) ≤ reportBytesMost
+-- "up to sixteen item lines, then a remainder line, a response line and the verdict": the rows of any report are at most 310 bytes long,
+-- for it has one group,
+pub rows-most : (s : List ℕ) (p : Parts) → length (reportBytes (under s p)) ≤ RowsMost
 unfolding reportBytes reportOf linesOf
 rows-most s p =
     let m : Message = messageOf p in
@@ -87,12 +85,17 @@ rows-most s p =
       groups-most (catalogue s) o (m .parts) (λ l e. layout-sixteen (recordsOf s) (m .key) l e, tt),
     )
 
+-- and so much lent output is always enough.
+pub rows-fit : (s : List ℕ) (p : Parts) (room : ℕ) → RowsMost ≤ room → answerOf s (frame.accepted p) room ≡ shown (reportBytes (under s p))
+unfolding answerOf fitted
+rows-fit s p room h = rw (le-ltb room (length (reportBytes (under s p))) (omega (arith, rows-most s p)))
+
 -- What is handed over is small: a place within a supplement, or the length of such rows.
 abbrev Small : Answer (List ℕ) → Type 0
 Small (refused n place) = place ≤ LargestSupplement
-Small (shown rows) = length rows ≤ reportBytesMost
+Small (shown rows) = length rows ≤ RowsMost
 
-fitted-small : (room : ℕ) (rows : List ℕ) → length rows ≤ reportBytesMost → Small (fitted room rows)
+fitted-small : (room : ℕ) (rows : List ℕ) → length rows ≤ RowsMost → Small (fitted room rows)
 unfolding fitted
 fitted-small room rows h = cases (ltb room (length rows)) (λ t. rw t (omega arith)) (λ f. rw f h)
 
@@ -109,7 +112,7 @@ place-of : (a : Answer (List ℕ)) (n place : ℕ) → Small a → refused n pla
 place-of (refused m q) n place h e = let same : place ≡ q = cc in omega arith
 place-of (shown rows) n place h e = absurd (let z : _≡_ {A = ℕ} 0 1 = cc in omega arith)
 
-size-of : (a : Answer (List ℕ)) (size : ℕ) → Small a → shown size ≡ sized a → size ≤ reportBytesMost
+size-of : (a : Answer (List ℕ)) (size : ℕ) → Small a → shown size ≡ sized a → size ≤ RowsMost
 size-of (refused m q) size h e = absurd (let z : _≡_ {A = ℕ} 0 1 = cc in omega arith)
 size-of (shown rows) size h e = let same : size ≡ length rows = cc in omega arith
 
@@ -117,5 +120,5 @@ module _ (s : List ℕ) (o : Outcome Parts) (room : ℕ) where
   pub place-within : (n place : ℕ) → refused n place ≡ sized (reportAnswer s o room) → place ≤ LargestSupplement
   place-within n place e = place-of (reportAnswer s o room) n place (answer-small s o room) e
 
-  pub size-within : (size : ℕ) → shown size ≡ sized (reportAnswer s o room) → size ≤ reportBytesMost
+  pub size-within : (size : ℕ) → shown size ≡ sized (reportAnswer s o room) → size ≤ RowsMost
   size-within size e = size-of (reportAnswer s o room) size (answer-small s o room) e

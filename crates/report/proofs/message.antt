@@ -1,2 +1,3 @@
--- Laws of a message.
+-- Laws of a message, and of the Numbers among its lines.
 pub mod Laws
+pub mod Held

@@ -1,2 +1,3 @@
--- Laws of a row.
+-- Laws of a row, and of rows that are equal.
 pub mod Laws
+pub mod Equal

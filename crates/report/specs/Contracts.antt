@@ -1,12 +1,11 @@
--- What only inner functions cite: places within a window, lines in an array, numbers that are no NaN, what lines add up to. No public
--- contract reaches here.
+-- What only inner functions cite: places within a window, lines in an array, Numbers that are fractions, what lines add up to. No
+-- public contract reaches here.
 use Prim.Native.Nat.{ℕ, _+_, _≤_}
 use mathlib.Core.Path.{_≡_}
-use mathlib.Core.Bool.{false, cond, _||_}
+use mathlib.Core.Bool.{cond, _||_}
 use mathlib.Core.List.{List, [], _∷_, map}
 use lib.Dec.{eqb}
 use lib.ListN.{length, take, drop}
-use lib.Ieee.{isNan}
 use Rattle.frame.specs.Frame.{Sizes, MostBytes}
 use Rattle.frame.specs.Refusal.{Outcome, refused, accepted, NoRefusal}
 use Rattle.catalogue.specs.Record.{MostPrns}
@@ -26,6 +25,7 @@ use Rattle.report.specs.Verdict.{any}
 use Rattle.report.specs.Rows.{row, rowsOf, reportBytes}
 use Rattle.report.specs.Report.{messageFrom, reportOf}
 use Rattle.report.specs.Answer.{Answer, fitted}
+use Rattle.report.specs.Fraction.{IsFraction}
 use Rattle.report.specs.Answer as answer
 
 -- The sizes that a reader hands over cut header and data out of a run of at most twelve bytes.
@@ -64,22 +64,22 @@ Lying to Rowless = Unit {0}
 Lying to Over = Unit {0}
 Lying to (Lies row at) = (1 ≤ row .width) × (at + row .width ≤ to)
 
--- A value, where a line has one, is no NaN.
-abbrev pub holdsNumber : Line → Type 0
-holdsNumber (Number x) = isNan x ≡ false
-holdsNumber (State n) = Unit {0}
-holdsNumber (Bits n) = Unit {0}
-holdsNumber (Text n) = Unit {0}
-holdsNumber (Digits n) = Unit {0}
-holdsNumber (Invalid n) = Unit {0}
-holdsNumber Short = Unit {0}
-holdsNumber (Unknown n) = Unit {0}
-holdsNumber (Left n) = Unit {0}
-holdsNumber (Answered n) = Unit {0}
+-- A Number is a fraction; of any other line nothing is said.
+abbrev pub holdsFraction : Line → Type 0
+holdsFraction (Number x n d) = IsFraction x n d
+holdsFraction (State n) = Unit {0}
+holdsFraction (Bits n) = Unit {0}
+holdsFraction (Text n) = Unit {0}
+holdsFraction (Digits n) = Unit {0}
+holdsFraction (Invalid n) = Unit {0}
+holdsFraction Short = Unit {0}
+holdsFraction (Unknown n) = Unit {0}
+holdsFraction (Left n) = Unit {0}
+holdsFraction (Answered n) = Unit {0}
 
 unfoldable pub allHold : List Line → Type 0
 allHold [] = Unit {0}
-allHold (l ∷ ls) = holdsNumber l × allHold ls
+allHold (l ∷ ls) = holdsFraction l × allHold ls
 
 -- What one line and what some lines add up to.
 abbrev pub weight : Line → Tally

@@ -7,6 +7,7 @@ pub mod Verdict
 pub mod Report
 pub mod Rows
 pub mod Answer
+pub mod Fraction
 pub mod Demand
 pub mod Left
 pub mod Judged

@@ -35,7 +35,7 @@ NoLayout = 8
 
 -- A line flags the report if it is Invalid or Short, or Left and not 0; it leaves it Unknown if it is Unknown.
 abbrev pub isFlagged : Line → Bool
-isFlagged (Number x) = false
+isFlagged (Number x n d) = false
 isFlagged (State n) = false
 isFlagged (Bits n) = false
 isFlagged (Text n) = false
@@ -47,7 +47,7 @@ isFlagged (Left n) = not (eqb n 0)
 isFlagged (Answered n) = false
 
 abbrev pub isUnknown : Line → Bool
-isUnknown (Number x) = false
+isUnknown (Number x n d) = false
 isUnknown (State n) = false
 isUnknown (Bits n) = false
 isUnknown (Text n) = false

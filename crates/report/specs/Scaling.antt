@@ -3,7 +3,7 @@ use Prim.Native.Nat.{ℕ, zero, suc, _+_, _-_, _*_, _/_, _%_, _^_}
 use mathlib.Core.Bool.{Bool, true, cond, _&&_}
 use lib.Dec.{eqb, leb, ltb}
 use lib.IntN.{ℤ, pos, negℤ, _+ℤ_, _*ℤ_}
-use lib.Ieee.{binary64, ofInt, div}
+use lib.Ieee.{Float, binary64, ofInt, div}
 use Rattle.catalogue.specs.declared.rows.SlotRow.{SlotRow}
 use Rattle.catalogue.specs.Rows.{SNM, SED, BMP, ASC, BMM, inOrder}
 use Rattle.report.specs.declared.line.Line.{Line}
@@ -30,8 +30,12 @@ rawNumber form width raw = cond (eqb form SNM) (signed (pattern form width raw))
 unfoldable pub above : SlotRow → ℕ → ℤ
 above slot raw = rawNumber (slot .form) (slot .width) raw *ℤ pos (slot .multiplier) +ℤ signed (slot .offset)
 
+unfoldable pub quotient : ℤ → ℕ → Float
+quotient n d = div binary64 (ofInt binary64 n) (ofInt binary64 (pos d))
+
+-- "Each Number must carry the whole number above the line and the divisor, unreduced, beside the double" (document 02, K3).
 unfoldable pub numberLine : SlotRow → ℕ → Line
-numberLine slot raw = Number (div binary64 (ofInt binary64 (above slot raw)) (ofInt binary64 (pos (slot .divisor))))
+numberLine slot raw = Number (quotient (above slot raw) (slot .divisor)) (above slot raw) (slot .divisor)
 
 -- Whether the raw number is within the SLOT's limits, as signed for SNM.
 unfoldable pub withinLimits : SlotRow → ℕ → Bool

@@ -1,8 +1,13 @@
 // The lines of a report, and why a line is Unknown.
 
-// A Number with its value, a code, or why nothing can be shown; Left and Answered are those of remainder and response.
+// A Number, a code, or why nothing can be shown; Left and Answered are those of remainder and response. A Number carries the whole number
+// above the line and the divisor, unreduced, and the double that they give.
 pub enum Line {
-    Number(f64),
+    Number {
+        value: f64,
+        above: i64,
+        divisor: u16,
+    },
     State(u32),
     Bits(u32),
     Text(u32),

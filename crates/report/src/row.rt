@@ -1,21 +1,24 @@
 // The row of a line as bytes in lent memory.
 use crate::line::Line;
 ghost use mathlib.Core.Path.{_≡_};
-ghost use mathlib.Core.Bool.{false};
 ghost use mathlib.Core.List.{[], _∷_};
 ghost use Prim.Native.Nat.{_+_, _≤_};
 ghost use lib.ListN.{length};
-ghost use lib.Ieee.{binary64, isNan, toBits};
 ghost use Rattle.frame.specs.Bytes.{placed};
-ghost use Rattle.report.specs.Rows.{DoubleBytes, CodeBytes, DoubleRow, CodeRow, ByteRow, BareRow, bigEndian, row};
-ghost use Rattle.report.specs.Contracts.{holdsNumber};
+ghost use Rattle.report.specs.Rows.{DoubleBytes, CodeBytes, NumberRow, CodeRow, ByteRow, BareRow, bigEndian, twosComplement, row};
+ghost use Rattle.report.specs.Fraction.{IsFraction};
+ghost use Rattle.report.specs.Contracts.{holdsFraction};
 
-// A row is a byte for its kind and a body: a double, a code, a byte, or nothing.
+// A row is a byte for its kind and a body: a Number's double, whole number and divisor, a code, a byte, or nothing.
 const DOUBLE_BYTES: usize = 8;
+
+const WHOLE_BYTES: usize = 8;
+
+const DIVISOR_BYTES: usize = 2;
 
 const CODE_BYTES: usize = 4;
 
-pub(crate) const DOUBLE_ROW: usize = 1 + DOUBLE_BYTES;
+pub(crate) const NUMBER_ROW: usize = 1 + DOUBLE_BYTES + WHOLE_BYTES + DIVISOR_BYTES;
 
 pub(crate) const CODE_ROW: usize = 1 + CODE_BYTES;
 
@@ -71,13 +74,27 @@ fn put_body(kind: u8, x: u64, n: usize, out: &mut [u8], at: usize) -> usize
     at + 1 + n
 }
 
-// A kind and a double.
-fn put_double(kind: u8, x: f64, out: &mut [u8], at: usize) -> usize
-    requires { ⌜ (isNan x ≡ false) × (at + DoubleRow ≤ length (now out)) ⌝ }
-    ensures placed { λ r. ⌜ now (out .exit) ≡ placed (now (out .entry)) at (kind ∷ bigEndian DoubleBytes (toBits binary64 x)) ⌝ }
-    ensures behind { λ r. ⌜ r ≡ at + DoubleRow ⌝ }
+// The 64 bits of a signed number.
+fn twos_complement(n: i64) -> u64
+    ensures { λ r. ⌜ r ≡ twosComplement n ⌝ }
 {
-    put_body(kind, f64::to_bits(x), DOUBLE_BYTES, out, at)
+    if 0 <= n {
+        n as u64
+    } else {
+        0xffff_ffff_ffff_ffff - (-1 - n) as u64
+    }
+}
+
+// A Number: the double, the whole number above the line, the divisor.
+fn put_fraction(value: f64, above: i64, divisor: u16, out: &mut [u8], at: usize) -> usize
+    requires { ⌜ IsFraction value above divisor × (at + NumberRow ≤ length (now out)) ⌝ }
+    ensures placed { λ r. ⌜ now (out .exit) ≡ placed (now (out .entry)) at (row (Line.Number value above divisor)) ⌝ }
+    ensures behind { λ r. ⌜ r ≡ at + NumberRow ⌝ }
+{
+    let whole = put_body(NUMBER, f64::to_bits(value), DOUBLE_BYTES, out, at);
+    put_number(twos_complement(above), WHOLE_BYTES, out, whole);
+    put_number(divisor as u64, DIVISOR_BYTES, out, whole + WHOLE_BYTES);
+    at + NUMBER_ROW
 }
 
 // A kind and a code.
@@ -112,12 +129,16 @@ fn put_bare(kind: u8, out: &mut [u8], at: usize) -> usize
 
 // The row of a line from a place on; the place behind it.
 pub(crate) fn put_row(line: Line, out: &mut [u8], at: usize) -> usize
-    requires { ⌜ holdsNumber line × (at + length (row line) ≤ length (now out)) ⌝ }
+    requires { ⌜ holdsFraction line × (at + length (row line) ≤ length (now out)) ⌝ }
     ensures placed { λ r. ⌜ now (out .exit) ≡ placed (now (out .entry)) at (row line) ⌝ }
     ensures behind { λ r. ⌜ r ≡ at + length (row line) ⌝ }
 {
     match line {
-        Line::Number(x) => put_double(NUMBER, x, out, at),
+        Line::Number {
+            value,
+            above,
+            divisor,
+        } => put_fraction(value, above, divisor, out, at),
         Line::State(code) => put_code(STATE, code, out, at),
         Line::Bits(code) => put_code(BITS, code, out, at),
         Line::Text(code) => put_code(TEXT, code, out, at),

@@ -64,14 +64,18 @@ fn above_line(slot: SlotRow, raw: u32) -> i64
     n * slot.multiplier as i64 + signed_of(slot.offset)
 }
 
-// The Number of a raw number: the one place where a double is made.
+// The Number of a raw number: the one place where a fraction and its double are made.
 fn number_line(slot: SlotRow, raw: u32) -> Line
     requires { ⌜ (1 ≤ slot .width) × (slot .width ≤ WidestShown) × (raw < 2 ^ slot .width) ⌝ }
     ensures { λ r. ⌜ r ≡ numberLine slot raw ⌝ }
 {
-    let divisor = slot.divisor as f64;
-    let above = above_line(slot, raw) as f64;
-    Line::Number(above / divisor)
+    let above = above_line(slot, raw);
+    let value = above as f64 / slot.divisor as f64;
+    Line::Number {
+        value,
+        above,
+        divisor: slot.divisor,
+    }
 }
 
 // Whether the raw number is within the SLOT's limits, as signed for SNM.

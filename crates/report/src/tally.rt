@@ -3,12 +3,12 @@ use crate::line::Line;
 use crate::row::BARE_ROW;
 use crate::row::BYTE_ROW;
 use crate::row::CODE_ROW;
-use crate::row::DOUBLE_ROW;
+use crate::row::NUMBER_ROW;
 ghost use mathlib.Core.Path.{_≡_};
 ghost use mathlib.Core.Bool.{false, _||_};
 ghost use mathlib.Core.List.{[]};
 ghost use Prim.Native.Nat.{_*_, _≤_};
-ghost use Rattle.report.specs.Rows.{DoubleRow};
+ghost use Rattle.report.specs.Rows.{NumberRow};
 ghost use Rattle.report.specs.Contracts.{MostLines, weight, together, tallyOf};
 
 // Whether a line flags, whether one is Unknown, and how long the rows of all are.
@@ -44,7 +44,11 @@ fn weight_of(line: Line) -> Tally
     ensures { λ r. ⌜ r ≡ weight line ⌝ }
 {
     match line {
-        Line::Number(_) => plain(DOUBLE_ROW),
+        Line::Number {
+            value: _,
+            above: _,
+            divisor: _,
+        } => plain(NUMBER_ROW),
         Line::State(_) => plain(CODE_ROW),
         Line::Bits(_) => plain(CODE_ROW),
         Line::Text(_) => plain(CODE_ROW),
@@ -81,7 +85,7 @@ fn either(a: bool, b: bool) -> bool
 
 // The tally with one line more.
 pub(crate) fn tallied(tally: Tally, line: Line) -> Tally
-    requires { ⌜ tally .size ≤ DoubleRow * MostLines ⌝ }
+    requires { ⌜ tally .size ≤ NumberRow * MostLines ⌝ }
     ensures { λ r. ⌜ r ≡ together tally (weight line) ⌝ }
 {
     let w = weight_of(line);

@@ -12,12 +12,12 @@ use Rattle.catalogue.specs.Rows.{inOrder}
 use Rattle.catalogue.specs.Tables.{slotRows}
 use Rattle.catalogue.specs.Search.{firstWhere}
 use Rattle.catalogue.specs.Sae.{saeSlot}
-use Rattle.report.specs.Scaling.{signed, pattern, rawNumber, above, numberLine, withinLimits, formLine}
+use Rattle.report.specs.Scaling.{signed, pattern, rawNumber, above, quotient, numberLine, withinLimits, formLine}
 use Rattle.report_vectors.specs.BenchCases.{benchCases, isoCases, lineBy, answered, expected}
 
 -- In every case of the table the definitions answer what is expected.
 pub bench-cases-hold : map answered benchCases ≡ map expected benchCases
-unfolding benchCases answered expected lineBy formLine withinLimits inOrder pattern numberLine above rawNumber signed ofInt div
+unfolding benchCases answered expected lineBy formLine withinLimits inOrder pattern numberLine quotient above rawNumber signed ofInt div
     saeSlot firstWhere slotRows readRefusal readRules readRulesWith firstBroken headerSize
 bench-cases-hold = refl
 

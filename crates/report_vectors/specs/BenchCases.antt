@@ -1,4 +1,5 @@
--- P1 to P13 of document 01, "Bench cases", in its order: one table, read beside the paper; and one of the refusals of ISO 9141-2.
+-- P1 to P13 of document 01, "Bench cases", in its order, each Number with its fraction: one table, read beside the paper; and one of the
+-- refusals of ISO 9141-2.
 use Prim.Native.Nat.{ℕ}
 use mathlib.Core.Logic.{_⊎_, inl, inr}
 use mathlib.Core.List.{List, [], _∷_}
@@ -21,9 +22,9 @@ pub data Case : Type 0 where
   frame : List ℕ → List ℕ → ℕ → Case
   message : List ℕ → ℕ → Case
 
--- The double of a whole number.
-abbrev pub number : ℤ → Line
-number z = Number (ofInt binary64 z)
+-- The value that document 01 names, as a double, beside the fraction that gives it.
+abbrev pub number : ℤ → ℤ → ℕ → Line
+number value n d = Number (ofInt binary64 value) n d
 
 -- P9 and P10: "SNM width 8, multiplier and divisor 1, offset 0, limits -128 to 127".
 abbrev pub signedByte : SlotRow
@@ -31,21 +32,21 @@ signedByte = slot SNM 8 1 1 1 0 (neg 128) 127
 
 unfoldable pub benchCases : List Case
 benchCases =
-    -- P1: UNM-08-77 raw 150: 100. P2: raw 151: Invalid.
-    item (saeSlot UNM 8 77) 150 (number (pos 100))
+    -- P1: UNM-08-77 raw 150: 100, as 300/3. P2: raw 151: Invalid.
+    item (saeSlot UNM 8 77) 150 (number (pos 100) (pos 300) 3)
     ∷ item (saeSlot UNM 8 77) 151 (Invalid 151)
-    -- P3: UNM-08-82 raw 240: 90. P4: raw 241: Invalid.
-    ∷ item (saeSlot UNM 8 82) 240 (number (pos 90))
+    -- P3: UNM-08-82 raw 240: 90, as 360/4. P4: raw 241: Invalid.
+    ∷ item (saeSlot UNM 8 82) 240 (number (pos 90) (pos 360) 4)
     ∷ item (saeSlot UNM 8 82) 241 (Invalid 241)
-    -- P5: UNM-08-92 raw 0: -100. P6: raw 128: 0.
-    ∷ item (saeSlot UNM 8 92) 0 (number (negℤ (pos 100)))
-    ∷ item (saeSlot UNM 8 92) 128 (number (pos 0))
-    -- P7: UNM-16-3 raw 0: -70. P8: UNM-08-102 raw 39: -1.
-    ∷ item (saeSlot UNM 16 3) 0 (number (negℤ (pos 70)))
-    ∷ item (saeSlot UNM 8 102) 39 (number (negℤ (pos 1)))
-    -- P9: raw 80h is -128. P10: raw FFh is -1.
-    ∷ item (some signedByte) 0x80 (number (negℤ (pos 128)))
-    ∷ item (some signedByte) 0xFF (number (negℤ (pos 1)))
+    -- P5: UNM-08-92 raw 0: -100, as -12800/128. P6: raw 128: 0, as 0/128.
+    ∷ item (saeSlot UNM 8 92) 0 (number (negℤ (pos 100)) (negℤ (pos 12800)) 128)
+    ∷ item (saeSlot UNM 8 92) 128 (number (pos 0) (pos 0) 128)
+    -- P7: UNM-16-3 raw 0: -70, as -17920/256. P8: UNM-08-102 raw 39: -1, as -1/1.
+    ∷ item (saeSlot UNM 16 3) 0 (number (negℤ (pos 70)) (negℤ (pos 17920)) 256)
+    ∷ item (saeSlot UNM 8 102) 39 (number (negℤ (pos 1)) (negℤ (pos 1)) 1)
+    -- P9: raw 80h is -128, as -128/1. P10: raw FFh is -1, as -1/1.
+    ∷ item (some signedByte) 0x80 (number (negℤ (pos 128)) (negℤ (pos 128)) 1)
+    ∷ item (some signedByte) 0xFF (number (negℤ (pos 1)) (negℤ (pos 1)) 1)
     -- P11: empty frame: 2. P12: H = 0, three bytes: 2. P13: thirteen bytes: 1.
     ∷ frame [] [] 2
     ∷ frame (0x48 ∷ 0x6B ∷ 0x10 ∷ []) [] 2

@@ -15,7 +15,7 @@ const SUPPLEMENT: usize = 16400;
 
 const RUN: usize = 16;
 
-const BUFFER: usize = 160;
+const BUFFER: usize = 320;
 
 const TEXT: usize = BYTE_DIGITS * BUFFER;
 

@@ -16,7 +16,7 @@ use Rattle.report.proofs.demand.Kept.{AllWith, Kept, GroupKept}
 
 -- A line that flags is not Unknown.
 pub flagged-known : (l : Line) → isFlagged l ≡ true → isUnknown l ≡ false
-flagged-known (Number x) e = refl
+flagged-known (Number x n d) e = refl
 flagged-known (State n) e = refl
 flagged-known (Bits n) e = refl
 flagged-known (Text n) e = refl

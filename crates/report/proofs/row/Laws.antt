@@ -1,17 +1,26 @@
 -- Laws of a row: bytes written from the last to the first, and how long a row is.
 use mathlib.Core.Path.{_≡_, refl, sym, ap, _∙_, subst}
-use mathlib.Core.List.{List, [], _∷_}
+use mathlib.Core.Bool.{true, false, true≢false}
+use mathlib.Core.List.{List, [], _∷_, _++_}
 use Prim.Native.Nat.{ℕ, zero, suc, _+_, _-_, _/_, _%_, _^_, _≤_, _<_}
 use native.Mathlib.Omega.{arith}
 use native.Mathlib.Nat.{pow-suc, div-one, div-div-eq-div-mul}
-use lib.ListN.{length, set}
-use lib.Ieee.{binary64, toBits}
+use borrow.Author.Tests.{le-leb, le-ltb}
+use lib.Dec.{T}
+use lib.ListN.{length, set, length-append}
+use lib.IntN.{ℤ, pos, negsuc, natAbs, _-ℤ_}
+use lib.Signed.{mag, nonNeg, leZ}
+use mir.Syntax.{w64}
+use mir.Val.{toZ, ofZ}
+use mir.ValLaws.{toZ-ofZ}
+use lib.Ieee.{Float, binary64, toBits}
 use Rattle.frame.specs.Bytes.{placed}
 use Rattle.frame.proofs.bytes.Placed.{stored, stored-before, placed-none, length-placed, joined}
 use Rattle.report.specs.declared.line.Line.{Line}
 use Rattle.report.specs.declared.line.Line.the-variants.{Number, State, Bits, Text, Digits, Invalid, Short, Unknown, Left, Answered}
-use Rattle.report.specs.Rows.{DoubleBytes, CodeBytes, DoubleRow, bigEndian, row}
-use Rattle.report.specs.Contracts.{holdsNumber}
+use Rattle.report.specs.Rows.{DoubleBytes, WholeBytes, DivisorBytes, CodeBytes, NumberRow, bigEndian, twosComplement, numberBody, row}
+use Rattle.report.specs.Fraction.{IsFraction}
+use Rattle.report.specs.Contracts.{holdsFraction}
 
 pub length-big-endian : (n x : ℕ) → length (bigEndian n x) ≡ n
 unfolding bigEndian
@@ -76,9 +85,62 @@ pub kind-behind :
     → o ≡ placed out at (kind ∷ body)
 kind-behind out at kind body e fits = joined out at (kind ∷ []) body (stored out at kind fits) e refl (omega arith)
 
+-- The 64 bits of a number from zero on are the number; those of one below zero are told from the number that mirrors it, -1 - n.
+pub upright : (z : ℤ) → leZ (pos 0) z ≡ true → T (nonNeg z) × (natAbs z ≡ twosComplement z)
+upright (pos n) e = (tt, refl)
+upright (negsuc n) e = absurd (true≢false (sym e))
+
+pub mirrored : (z : ℤ) → leZ (pos 0) z ≡ false → (negsuc 0 -ℤ z ≡ pos (mag z)) × (twosComplement z ≡ 2 ^ 64 - 1 - mag z)
+mirrored (pos n) e = absurd (true≢false (sym (le-leb 0 n (omega arith)) ∙ e))
+mirrored (negsuc n) e = (rw (le-ltb (suc n) 1 (omega arith)) (ap pos (omega arith)), omega arith)
+
+-- The whole number of a fraction is read back from its 64 bits.
+mag-abs : (z : ℤ) → mag z ≤ natAbs z
+mag-abs (pos n) = omega arith
+mag-abs (negsuc n) = omega arith
+
+pub whole-reread : {x : Float} {n : ℤ} {d : ℕ} → IsFraction x n d → toZ w64 (ofZ w64 n) ≡ n
+whole-reread {n = n} f = toZ-ofZ w64 n (record { sfits = omega (arith, mag-abs n, f .size) })
+
+pub length-number : (x : Float) (n : ℤ) (d : ℕ) → length (numberBody x n d) ≡ DoubleBytes + WholeBytes + DivisorBytes
+length-number x n d =
+    let a : List ℕ = bigEndian DoubleBytes (toBits binary64 x) in
+    let b : List ℕ = bigEndian WholeBytes (twosComplement n) in
+    let c : List ℕ = bigEndian DivisorBytes d in
+    let all : length (numberBody x n d) ≡ length (a ++ b) + length c = length-append (a ++ b) c in
+    omega (
+      arith,
+      all,
+      length-append a b,
+      length-big-endian DoubleBytes (toBits binary64 x),
+      length-big-endian WholeBytes (twosComplement n),
+      length-big-endian DivisorBytes d,
+    )
+
+-- The parts of a Number placed one behind the other make its row.
+pub parts-behind :
+    (out : List ℕ) (at : ℕ) (x : Float) (n : ℤ) (d : ℕ) {p q o : List ℕ} {whole bits : ℕ}
+    → (p ≡ placed out at (1 ∷ bigEndian DoubleBytes (toBits binary64 x))) × (whole ≡ at + 1 + DoubleBytes)
+    → bits ≡ twosComplement n
+    → q ≡ placed p whole (bigEndian WholeBytes bits)
+    → o ≡ placed q (whole + WholeBytes) (bigEndian DivisorBytes d)
+    → at + NumberRow ≤ length out
+    → o ≡ placed out at (row (Number x n d))
+unfolding row
+parts-behind out at x n d {p = p} {q = q} {whole = whole} first e second third fits =
+    let a : List ℕ = 1 ∷ bigEndian DoubleBytes (toBits binary64 x) in
+    let b : List ℕ = bigEndian WholeBytes (twosComplement n) in
+    let c : List ℕ = bigEndian DivisorBytes d in
+    let la = length-big-endian DoubleBytes (toBits binary64 x) in
+    let lab : length (a ++ b) ≡ 1 + DoubleBytes + WholeBytes =
+    omega (arith, length-append a b, la, length-big-endian WholeBytes (twosComplement n)) in
+    let behind : q ≡ placed p whole b = second ∙ ap (λ (w : ℕ). placed p whole (bigEndian WholeBytes w)) e in
+    let two : q ≡ placed out at (a ++ b) = joined out at a b {n = whole} (first .0) behind (omega (arith, la, first .1)) (omega (arith, la)) in
+    joined out at (a ++ b) c {n = whole + WholeBytes} two third (omega (arith, lab, first .1)) (omega (arith, lab))
+
 pub row-some : (l : Line) → 1 ≤ length (row l)
 unfolding row
-row-some (Number x) = omega arith
+row-some (Number x n d) = omega arith
 row-some (State n) = omega arith
 row-some (Bits n) = omega arith
 row-some (Text n) = omega arith
@@ -89,9 +151,9 @@ row-some (Unknown n) = omega arith
 row-some (Left n) = omega arith
 row-some (Answered n) = omega arith
 
-pub row-most : (l : Line) → length (row l) ≤ DoubleRow
+pub row-most : (l : Line) → length (row l) ≤ NumberRow
 unfolding row
-row-most (Number x) = omega (arith, length-big-endian DoubleBytes (toBits binary64 x))
+row-most (Number x n d) = omega (arith, length-number x n d)
 row-most (State n) = omega (arith, length-big-endian CodeBytes n)
 row-most (Bits n) = omega (arith, length-big-endian CodeBytes n)
 row-most (Text n) = omega (arith, length-big-endian CodeBytes n)
@@ -106,9 +168,9 @@ row-most (Answered n) = omega arith
 pub asked :
     (out : List ℕ) (at : ℕ) {l k : Line}
     → l ≡ k
-    → holdsNumber l × (at + length (row l) ≤ length out)
-    → holdsNumber k × (at + length (row k) ≤ length out)
-asked out at e h = subst (λ (k : Line). holdsNumber k × (at + length (row k) ≤ length out)) e h
+    → holdsFraction l × (at + length (row l) ≤ length out)
+    → holdsFraction k × (at + length (row k) ≤ length out)
+asked out at e h = subst (λ (k : Line). holdsFraction k × (at + length (row k) ≤ length out)) e h
 
 pub put-told :
     (out : List ℕ) (at : ℕ) {l k : Line} {o : List ℕ} {r : ℕ}

@@ -6,14 +6,15 @@ use native.Mathlib.Omega.{arith}
 use native.Mathlib.Numerals.{add-one}
 use lib.ListN.{length, take, drop, getD, length-append, length-map, List·getD-map}
 use lib.Seq.{length-take-le, take-suc, take-add, getD-take}
+use lib.IntN.{pos}
 use lib.Ieee.{nan}
 use Rattle.frame.specs.Bytes.{placed}
 use Rattle.frame.proofs.bytes.Placed.{placed-none, length-placed, joined}
 use Rattle.report.specs.declared.line.Line.{Line}
 use Rattle.report.specs.declared.line.Held.{Held}
 use Rattle.report.specs.declared.line.Line.the-variants.{Number}
-use Rattle.report.specs.Rows.{DoubleRow, row, rowsOf}
-use Rattle.report.specs.Contracts.{holdsNumber, allHold, firstLines}
+use Rattle.report.specs.Rows.{NumberRow, row, rowsOf}
+use Rattle.report.specs.Contracts.{holdsFraction, allHold, firstLines}
 use Rattle.report.proofs.row.Laws.{row-most}
 
 pub rows-append : (a b : List Line) → rowsOf (a ++ b) ≡ rowsOf a ++ rowsOf b
@@ -27,7 +28,7 @@ rows-snoc ls l =
     ap length (rows-append ls (l ∷ []) ∙ ap (λ (s : List ℕ). rowsOf ls ++ s) (append-nil (row l)))
     ∙ length-append (rowsOf ls) (row l)
 
-pub rows-length : (ls : List Line) → length (rowsOf ls) ≤ DoubleRow * length ls
+pub rows-length : (ls : List Line) → length (rowsOf ls) ≤ NumberRow * length ls
 unfolding rowsOf
 rows-length [] = omega arith
 rows-length (l ∷ ls) = omega (arith, length-append (row l) (rowsOf ls), row-most l, rows-length ls)
@@ -41,7 +42,7 @@ rows-front ls i n h =
     ap (λ (m : ℕ). rowsOf (take m ls)) (sym all) ∙ ap rowsOf (take-add i (n - i) ls) ∙ rows-append (take i ls) rest in
     omega (arith, ap length split, length-append (rowsOf (take i ls)) (rowsOf rest))
 
-holds-at : (ls : List Line) (i : ℕ) (d : Line) → i < length ls → allHold ls → holdsNumber (getD ls i d)
+holds-at : (ls : List Line) (i : ℕ) (d : Line) → i < length ls → allHold ls → holdsFraction (getD ls i d)
 unfolding allHold
 holds-at [] i d h a = absurd (omega arith)
 holds-at (l ∷ ls) zero d h a = a .0
@@ -52,27 +53,27 @@ abbrev lines : List Held → List Line
 lines held = map (λ (h : Held). h .line) held
 
 abbrev pub noLine : Held
-noLine = record { line = Number nan }
+noLine = record { line = Number nan (pos 0) 0 }
 
 abbrev pub heldAt : List Held → ℕ → Line
 heldAt held i = getD held i noLine .line
 
-line-is : (held : List Held) (i : ℕ) → getD (lines held) i (Number nan) ≡ heldAt held i
+line-is : (held : List Held) (i : ℕ) → getD (lines held) i (noLine .line) ≡ heldAt held i
 line-is held i = List·getD-map (λ (h : Held). h .line) held i noLine
 
 pub holds-line :
-    (held : List Held) (count i : ℕ) → i < count → count ≤ length held → allHold (firstLines count held) → holdsNumber (heldAt held i)
+    (held : List Held) (count i : ℕ) → i < count → count ≤ length held → allHold (firstLines count held) → holdsFraction (heldAt held i)
 holds-line held count i h fits a =
     let size : length (firstLines count held) ≡ count =
     length-take-le count (lines held) (omega (arith, length-map held (λ (h : Held). h .line))) in
-    subst holdsNumber (getD-take count (lines held) i (Number nan) h ∙ line-is held i)
-    (holds-at (firstLines count held) i (Number nan) (omega (arith, size)) a)
+    subst holdsFraction (getD-take count (lines held) i (noLine .line) h ∙ line-is held i)
+    (holds-at (firstLines count held) i (noLine .line) (omega (arith, size)) a)
 
 rows-more : (held : List Held) (i : ℕ) → i < length held → rowsOf (firstLines (i + 1) held) ≡ rowsOf (firstLines i held) ++ row (heldAt held i)
 unfolding rowsOf
 rows-more held i h =
     ap (λ (m : ℕ). rowsOf (firstLines m held)) (add-one i)
-    ∙ ap rowsOf (take-suc (lines held) i (Number nan) (omega (arith, length-map held (λ (h : Held). h .line))))
+    ∙ ap rowsOf (take-suc (lines held) i (noLine .line) (omega (arith, length-map held (λ (h : Held). h .line))))
     ∙ rows-append (firstLines i held) _
     ∙ ap (λ (l : Line). rowsOf (firstLines i held) ++ (row l ++ [])) (line-is held i)
     ∙ ap (λ (u : List ℕ). rowsOf (firstLines i held) ++ u) (append-nil (row (heldAt held i)))

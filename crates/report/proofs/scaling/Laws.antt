@@ -12,18 +12,20 @@ use lib.Ieee.Back.{round-whole}
 use lib.Ieee.Positive.{positive, positive-of-value}
 use lib.IntN.{ℤ, pos, negsuc, negℤ, subℕ, _+ℤ_, _-ℤ_, _*ℤ_}
 use lib.Pow.{pow-mono}
-use lib.Signed.{mag}
+use lib.Signed.{mag, natAbs-le}
 use mir.Syntax.{w64}
 use mir.Val.{toZ, ofZ}
 use mir.ValLaws.{toZ-pos, toZ-ofZ}
 use Rattle.catalogue.specs.declared.rows.SlotRow.{SlotRow}
+use Rattle.catalogue.proofs.rows.Laws.{SlotRanges, SlotSizes}
 use Rattle.catalogue.specs.Rows.{SNM, SED, BMP, ASC, BCD, BMM, inOrder}
 use Rattle.frame.proofs.bytes.Laws.{cases}
 use Rattle.report.specs.declared.line.Line.the-variants.{State, Bits, Text, Digits, Invalid, Unknown}
 use Rattle.report.specs.Line.{NotShown, NoState, TooWide}
-use Rattle.report.specs.Scaling.{WidestShown, signed, pattern, rawNumber, above, numberLine, withinLimits, digitsPass, printable, decimal, textLine, digitsLine, formLine}
+use Rattle.report.specs.Scaling.{WidestShown, signed, pattern, rawNumber, above, quotient, numberLine, withinLimits, digitsPass, printable, decimal, textLine, digitsLine, formLine}
 use Rattle.report.specs.declared.line.Line.{Line}
-use Rattle.report.specs.Contracts.{holdsNumber}
+use Rattle.report.specs.Fraction.{MostAbove, IsFraction}
+use Rattle.report.specs.Contracts.{holdsFraction}
 
 -- A number below 2 ^ 63, known to be another, is read back from its bits as that.
 pub reread : {y z : ℤ} → y ≡ z → mag z < 2 ^ 63 → toZ w64 (ofZ w64 y) ≡ z
@@ -134,7 +136,7 @@ pub above-small :
     → raw < 2 ^ slot .width
     → slot .multiplier < 2 ^ 16
     → slot .offset < 2 ^ 32
-    → mag (above slot raw) < 2 ^ 53
+    → mag (above slot raw) < MostAbove
 unfolding above
 above-small slot raw l h r k o =
     let n : ℤ = rawNumber (slot .form) (slot .width) raw *ℤ pos (slot .multiplier) in
@@ -179,18 +181,14 @@ div-number f (fin false n d) (fin s m e) p h =
     let k : eqb n 0 ≡ false = ne-eqb n 0 (λ z. omega (arith, ltb→lt 0 n p)) in
     rw k (round-number f (unlike s false) (m * up e * down d) (n * up d * down e))
 
--- A SLOT with a divisor gives a number.
-pub number-not-nan :
-    (slot : SlotRow) (raw : ℕ)
-    → 1 ≤ slot .divisor
-    → slot .divisor < 2 ^ 16
-    → isNan (div binary64 (ofInt binary64 (above slot raw)) (ofInt binary64 (pos (slot .divisor)))) ≡ false
-unfolding ofInt
-number-not-nan slot raw l h =
-    let d = slot .divisor in
-    div-number binary64 (ofInt binary64 (pos d)) (ofInt binary64 (above slot raw))
-    (positive-of-value (round binary64 false d 1) d 1 (round-whole binary64 false d (omega arith)) l)
-    (int-number binary64 (above slot raw))
+-- The double of a fraction is a number.
+pub fraction-number : {x : Float} {n : ℤ} {d : ℕ} → IsFraction x n d → isNan x ≡ false
+unfolding ofInt quotient
+fraction-number {x} {n} {d} f =
+    ap isNan (f .divided)
+    ∙ div-number binary64 (ofInt binary64 (pos d)) (ofInt binary64 n)
+    (positive-of-value (round binary64 false d 1) d 1 (round-whole binary64 false d (omega (arith, f .most))) (f .least))
+    (int-number binary64 n)
 
 -- The pattern is not below the lowest number, and not above the highest.
 pub below-lowest :
@@ -261,7 +259,7 @@ form-wide form width slot raw h w = rw (lt-leb BMM form h, lt-ltb WidestShown wi
 -- What holds of each line that a form can give holds of the one that it gives.
 pub form-among :
     (P : Line → Type 0) (form width : ℕ) (slot : SlotRow) (raw : ℕ)
-    → P (numberLine slot raw)
+    → (width ≤ WidestShown → P (numberLine slot raw))
     → P (State raw)
     → P (Bits raw)
     → P (Text raw)
@@ -274,24 +272,43 @@ pub form-among :
 unfolding formLine textLine digitsLine
 form-among P form width slot raw number state bits text digits invalid u4 u5 u6 =
     of (leb BMM form) u4
-    (of (ltb WidestShown width) u6
-    (of (leb form SNM) (of (withinLimits slot raw) number invalid)
+    (narrow (ltb WidestShown width) u6 λ shown.
+    of (leb form SNM) (of (withinLimits slot raw) (number (ltb-false _ _ shown)) invalid)
     (of (eqb form SED) (of (withinLimits slot raw) state u5)
     (of (eqb form BMP) bits
     (of (eqb form ASC)
     (of (eqb (width % 8) 0) (of (digitsPass printable 8 (width / 8) raw) text invalid) u4)
-    (of (eqb (width % 4) 0) (of (digitsPass decimal 4 (width / 4) raw) digits invalid) u4))))))
+    (of (eqb (width % 4) 0) (of (digitsPass decimal 4 (width / 4) raw) digits invalid) u4)))))
   where
+    narrow : (t : Bool) {l m : Line} → P l → (t ≡ false → P m) → P (cond t l m)
+    narrow true a b = a
+    narrow false a b = b refl
+
     of : (t : Bool) {l m : Line} → P l → P m → P (cond t l m)
     of true a b = a
     of false a b = b
 
--- The line of a form holds no NaN if the divisor is not 0.
-pub form-holds :
-    (form width : ℕ) (slot : SlotRow) (raw : ℕ)
-    → 1 ≤ slot .divisor
-    → slot .divisor < 2 ^ 16
-    → holdsNumber (formLine form width slot raw)
+-- A SLOT that an item of a width can have: of that width, in range, and its fields of their sizes.
+pub record Scales (w : ℕ) (slot : SlotRow) : Type 0 where
+  pub width : slot .width ≡ w
+  pub ranges : SlotRanges slot
+  pub sizes : SlotSizes slot
+
+number-holds : (w : ℕ) (slot : SlotRow) (raw : ℕ) → Scales w slot → raw < 2 ^ w → w ≤ WidestShown → holdsFraction (numberLine slot raw)
 unfolding numberLine
-form-holds form width slot raw h l =
-    form-among holdsNumber form width slot raw (number-not-nan slot raw h l) tt tt tt tt tt tt tt tt
+number-holds w slot raw s r h =
+    let small : raw < 2 ^ slot .width = subst (λ (k : ℕ). raw < 2 ^ k) (sym (s .width)) r in
+    let shown : slot .width ≤ WidestShown = omega (arith, s .width) in
+    let above-is = above-small slot raw (s .ranges .key .width-least) shown small (s .sizes .multiplier) (s .sizes .offset) in
+    record {
+      divided = refl;
+      least = s .ranges .divisor;
+      most = omega (arith, s .sizes .divisor);
+      size = natAbs-le (above slot raw) above-is;
+    }
+
+-- The line of a form holds a fraction where it is a Number.
+pub form-holds :
+    (form width : ℕ) (slot : SlotRow) (raw : ℕ) → Scales width slot → raw < 2 ^ width → holdsFraction (formLine form width slot raw)
+form-holds form width slot raw s r =
+    form-among holdsFraction form width slot raw (number-holds width slot raw s r) tt tt tt tt tt tt tt tt

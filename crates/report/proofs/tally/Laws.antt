@@ -7,7 +7,7 @@ use lib.ListN.{length}
 use Rattle.report.specs.declared.line.Line.{Line}
 use Rattle.report.specs.declared.tally.Tally.{Tally}
 use Rattle.report.specs.Line.{isFlagged, isUnknown}
-use Rattle.report.specs.Rows.{DoubleRow}
+use Rattle.report.specs.Rows.{NumberRow}
 use Rattle.report.specs.Contracts.{MostLines, weight, together, tallyOf}
 use Rattle.report.proofs.verdict.Laws.{any-snoc}
 use Rattle.report.proofs.rows.Laws.{rows-length, rows-snoc}
@@ -24,7 +24,7 @@ tally-snoc ls l =
     }
 
 -- So few rows are short enough to count one more.
-pub tally-small : (ls : List Line) {t : Tally} → t ≡ tallyOf ls → length ls ≤ MostLines → t .size ≤ DoubleRow * MostLines
+pub tally-small : (ls : List Line) {t : Tally} → t ≡ tallyOf ls → length ls ≤ MostLines → t .size ≤ NumberRow * MostLines
 unfolding tallyOf
 tally-small ls e h = omega (arith, rows-length ls, size e)
   where

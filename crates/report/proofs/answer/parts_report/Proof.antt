@@ -13,7 +13,7 @@ use Rattle.report.specs.Report.{Report, messageFrom, reportOf, linesOf}
 use Rattle.report.specs.Rows.{ByteRow, rowsOf, verdictRow, reportBytes}
 use Rattle.report.specs.Answer.{refused, shown}
 use Rattle.report.specs.Contracts.{allHold, linesIn}
-use Rattle.report.proofs.NoNan.{no-nan}
+use Rattle.report.proofs.message.Held.{numbers-hold}
 use Rattle.report.proofs.lines.Laws.{shows-own, shows-most}
 use Rattle.report.proofs.tally.Laws.{tally-small}
 use Rattle.report.proofs.answer.Laws.{rows-told, size-told, verdict-length, settled, too-long, fits}
@@ -47,14 +47,14 @@ returns c =
     let out = at .before .before .before .before .before .args .out .now in
     settled (refused OutputShort 0) _ out (too-long (asked at) (length out) (omega (arith, size at, c .if1 .taken)))
 
--- no Number among the lines is a NaN
+-- every Number among the lines is a fraction
 holds : (c : tie.After-message-report) → allHold (linesIn (c .message-report .result))
 holds c =
     let start = c .before .before .before .before .before in
     let a = start .args in
     let bytes : Bytes (a .s .now) = λ i. c .before .before .before .before .shared-slice-known .given i .fits in
     subst allHold (sym (c .message-report .ensures .lines))
-    (no-nan (a .s .now) bytes (start .pre .0) (messageFrom (a .header .now) (a .body .now) (a .kind)))
+    (numbers-hold (a .s .now) bytes (start .pre .0) (messageFrom (a .header .now) (a .body .now) (a .kind)))
 
 put-report-requires : tie.Need-put-report-requires
 put-report-requires c κs =

@@ -1,15 +1,30 @@
 -- Each arm puts its case's row.
-use Rattle.report.specs.Rows.{bigEndian, row}
-use Rattle.report.proofs.row.Laws.{asked, put-told}
+use mathlib.Core.Path.{sym, ap, _∙_, subst}
+use Prim.Native.Nat.{_+_, _≤_}
+use lib.ListN.{length}
+use lib.IntN.{ℤ}
+use Rattle.report.specs.declared.line.Line.the-variants.{Number}
+use Rattle.report.specs.Rows.{NumberRow, bigEndian, row}
+use Rattle.report.specs.Fraction.{IsFraction}
+use Rattle.report.proofs.row.Laws.{whole-reread, asked, put-told}
 use borrow.Author.Needs.{needs}
 use Rattle.report.proofs.row.put_row.Statement.{statement}
 use Rattle.report.proofs.row.put_row.Tie as tie
 
-put-double-requires : tie.Need-put-double-requires
+-- the parts of a Number, and its whole number as it is passed on
+held : (c : tie.After-put-fraction-arg) →
+    let g = c .before .before .line .given .0 in
+    let start = c .before .before .before .before .before in
+    IsFraction (g .0) (g .1 .0) (g .1 .1 .0) × (start .args .at + NumberRow ≤ length (start .args .out .now))
 unfolding row bigEndian
-put-double-requires c κs =
+held c =
     let start = c .before .before .before .before .before in
     asked (start .args .out .now) (start .args .at) (c .before .before .line .given .1) (start .pre)
+
+put-fraction-requires : tie.Need-put-fraction-requires
+put-fraction-requires c κs =
+    let g = c .before .before .line .given .0 in
+    (subst (λ (z : ℤ). IsFraction (g .0) z (g .1 .1 .0)) (sym (whole-reread (held c .0))) (held c .0), held c .1)
 
 put-code-requires : tie.Need-put-code-requires
 unfolding row bigEndian
@@ -68,8 +83,11 @@ put-byte-requires-3 c κs =
 returns : tie.Need-returns
 unfolding row bigEndian
 returns c =
-    let start = c .before .before .before .before .before .before .before .before in
-    put-told (start .args .out .now) (start .args .at) (c .before .before .before .before .before .line .given .1) (c .before .before .put-double .ensures)
+    let arg = c .before .before .before in
+    let start = arg .before .before .before .before .before in
+    let g = arg .before .before .line .given .0 in
+    let passed = ap (λ (z : ℤ). Number (g .0) z (g .1 .1 .0)) (sym (whole-reread (held arg .0))) in
+    put-told (start .args .out .now) (start .args .at) (arg .before .before .line .given .1 ∙ passed) (c .before .before .put-fraction .ensures)
 
 returns-2 : tie.Need-returns-2
 unfolding row bigEndian
@@ -130,7 +148,7 @@ put-row-spec =
     tie.close
     (tie.spec
     (λ c. search needs)
-    put-double-requires
+    put-fraction-requires
     (λ c. search needs)
     put-code-requires
     (λ c. search needs)

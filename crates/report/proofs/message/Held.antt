@@ -1,4 +1,4 @@
--- No Number that a report shows is a NaN.
+-- Every Number among the lines of a report is a fraction.
 use mathlib.Core.List.{List, [], _∷_, _++_, map}
 use mathlib.Core.Option.{Option, none, some}
 use Prim.Native.Nat.{ℕ}
@@ -14,20 +14,20 @@ use Rattle.report.specs.declared.line.Line.{Line}
 use Rattle.report.specs.declared.spots.Place.{Place}
 use Rattle.report.specs.declared.spots.Place.the-variants.{Bit, Lost, Past}
 use Rattle.report.specs.Report.{Part, Message, remainderAt, spotsIn, groupOf, groupLines, responseLine, reportOf, linesOf}
-use Rattle.report.specs.Contracts.{holdsNumber, allHold}
-use Rattle.report.proofs.items.Laws.{Divides, good-divides, all-append, all-items}
+use Rattle.report.specs.Contracts.{holdsFraction, allHold}
+use Rattle.report.proofs.items.Laws.{AllScale, good-scale, all-append, all-items}
 
-remainder-holds : (to : ℕ) (place : Place) → holdsNumber (remainderAt to place)
+remainder-holds : (to : ℕ) (place : Place) → holdsFraction (remainderAt to place)
 unfolding remainderAt
 remainder-holds to (Bit at) = tt
 remainder-holds to Lost = tt
 remainder-holds to Past = tt
 
-response-holds : (kind : ℕ) → holdsNumber (responseLine kind)
+response-holds : (kind : ℕ) → holdsFraction (responseLine kind)
 unfolding responseLine
 response-holds kind = cases (eqb kind KindData) (λ t. rw t tt) (λ f. rw f tt)
 
-module _ (c : Catalogue) (d : Divides (c .slot)) where
+module _ (c : Catalogue) (d : AllScale (c .slot)) where
   group-holds : (o : Option LayoutRow) (p : Part) → allHold (groupOf c o p .items ++ groupOf c o p .remainder ∷ [])
   unfolding groupOf allHold
   group-holds none p = (tt, tt)
@@ -48,6 +48,5 @@ module _ (c : Catalogue) (d : Divides (c .slot)) where
       let last : allHold (responseLine (m .kind) ∷ []) = (response-holds (m .kind), tt) in
       all-append (groupLines (map (groupOf c (c .layout (m .key))) (m .parts))) (responseLine (m .kind) ∷ []) (groups-hold _ (m .parts)) last
 
--- "A line is a Number, a code or an Unknown, and a Number carries a double": under a supplement of good records, one that is a number.
-pub no-nan : (s : List ℕ) → Bytes s → Good (recordsOf s) → (m : Message) → allHold (linesOf (reportOf (catalogue s) m))
-no-nan s b g m = report-holds (catalogue s) (good-divides (recordsOf s) g (record-bytes s b)) m
+pub numbers-hold : (s : List ℕ) → Bytes s → Good (recordsOf s) → (m : Message) → allHold (linesOf (reportOf (catalogue s) m))
+numbers-hold s b g m = report-holds (catalogue s) (good-scale (recordsOf s) g (record-bytes s b)) m
