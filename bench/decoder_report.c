@@ -18,38 +18,47 @@ struct report {
     uint8_t rows[RAKHUBOLE_ROWS_MOST];
 };
 
+static void put_bytes(struct report *report, uint64_t number, size_t count)
+{
+    for (size_t i = count; i > 0; i--)
+        report->rows[report->length++] = (uint8_t)(number >> 8 * (i - 1));
+}
+
 static void put_row(struct report *report, uint8_t kind, uint64_t body, size_t body_length)
 {
     report->rows[report->length++] = kind;
-    for (size_t i = body_length; i > 0; i--)
-        report->rows[report->length++] = (uint8_t)(body >> 8 * (i - 1));
+    put_bytes(report, body, body_length);
 }
 
 static void put_code(struct report *report, uint8_t kind, uint32_t code)
 {
-    put_row(report, kind, code, CODE_BODY);
+    put_row(report, kind, code, RAKHUBOLE_CODE_BODY);
     if (kind == RAKHUBOLE_ROW_INVALID)
         report->flagged = true;
 }
 
 static void put_unknown(struct report *report, uint8_t number)
 {
-    put_row(report, RAKHUBOLE_ROW_UNKNOWN, number, OTHER_BODY);
+    put_row(report, RAKHUBOLE_ROW_UNKNOWN, number, RAKHUBOLE_OTHER_BODY);
     report->unknown = true;
 }
 
 static void put_short(struct report *report)
 {
-    put_row(report, RAKHUBOLE_ROW_SHORT, 0, SHORT_BODY);
+    put_row(report, RAKHUBOLE_ROW_SHORT, 0, RAKHUBOLE_SHORT_BODY);
     report->flagged = true;
 }
 
+/* The double, the whole number above the line in two's complement, the divisor. */
 static void put_number(struct report *report, const struct slot_row *slot, int64_t number)
 {
-    double value = (double)(number * slot->multiplier + slot->offset) / (double)slot->divisor;
+    int64_t above = number * slot->multiplier + slot->offset;
+    double value = (double)above / (double)slot->divisor;
     uint64_t bits;
     memcpy(&bits, &value, sizeof bits);
-    put_row(report, RAKHUBOLE_ROW_NUMBER, bits, NUMBER_BODY);
+    put_row(report, RAKHUBOLE_ROW_NUMBER, bits, sizeof bits);
+    put_bytes(report, (uint64_t)above, sizeof above);
+    put_bytes(report, slot->divisor, sizeof slot->divisor);
 }
 
 /* The bits from a place on, at most 32 of them, zeros before them. */
@@ -166,7 +175,7 @@ static void report_remainder(struct report *report, bool has_layout)
     } else if (report->is_short) {
         put_short(report);
     } else {
-        put_row(report, RAKHUBOLE_ROW_LEFT, report->bits - report->place, OTHER_BODY);
+        put_row(report, RAKHUBOLE_ROW_LEFT, report->bits - report->place, RAKHUBOLE_OTHER_BODY);
         if (report->place < report->bits)
             report->flagged = true;
     }
@@ -181,11 +190,11 @@ static void make_report(struct report *report, const struct frame *frame)
     if (frame->kind == 3)
         put_unknown(report, RAKHUBOLE_UNKNOWN_RESPONSE);
     else
-        put_row(report, RAKHUBOLE_ROW_ANSWERED, frame->kind, OTHER_BODY);
+        put_row(report, RAKHUBOLE_ROW_ANSWERED, frame->kind, RAKHUBOLE_OTHER_BODY);
     unsigned verdict = report->flagged   ? RAKHUBOLE_FLAGGED
                        : report->unknown ? RAKHUBOLE_VERDICT_UNKNOWN
                                          : RAKHUBOLE_CLEAR;
-    put_row(report, RAKHUBOLE_ROW_VERDICT, verdict, OTHER_BODY);
+    put_row(report, RAKHUBOLE_ROW_VERDICT, verdict, RAKHUBOLE_OTHER_BODY);
 }
 
 /* The answer for an accepted supplement and the parts of an accepted frame or

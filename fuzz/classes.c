@@ -65,10 +65,10 @@ static struct tally tallies[CALLS];
 static size_t body_size(uint8_t kind)
 {
     if (kind == RAKHUBOLE_ROW_NUMBER)
-        return NUMBER_BODY;
+        return RAKHUBOLE_NUMBER_BODY;
     if (kind == RAKHUBOLE_ROW_SHORT)
-        return SHORT_BODY;
-    return kind <= RAKHUBOLE_ROW_INVALID ? CODE_BODY : OTHER_BODY;
+        return RAKHUBOLE_SHORT_BODY;
+    return kind <= RAKHUBOLE_ROW_INVALID ? RAKHUBOLE_CODE_BODY : RAKHUBOLE_OTHER_BODY;
 }
 
 static void count_rows(struct tally *tally, const uint8_t *out, size_t length)

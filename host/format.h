@@ -63,8 +63,4 @@ enum {
 };
 enum { LAYOUT_PRNS = 16 };
 
-/* The bodies of rows: a Number's; that of a State, Bits, Text, Digits or
- * Invalid; a Short's; and that of any other row. */
-enum { NUMBER_BODY = 8, CODE_BODY = 4, SHORT_BODY = 0, OTHER_BODY = 1 };
-
 #endif

@@ -6,14 +6,14 @@
 static size_t body_size(uint8_t kind)
 {
     switch (kind) {
-    case RAKHUBOLE_ROW_NUMBER: return NUMBER_BODY;
+    case RAKHUBOLE_ROW_NUMBER: return RAKHUBOLE_NUMBER_BODY;
     case RAKHUBOLE_ROW_STATE:
     case RAKHUBOLE_ROW_BITS:
     case RAKHUBOLE_ROW_TEXT:
     case RAKHUBOLE_ROW_DIGITS:
-    case RAKHUBOLE_ROW_INVALID: return CODE_BODY;
-    case RAKHUBOLE_ROW_SHORT: return SHORT_BODY;
-    default: return OTHER_BODY;
+    case RAKHUBOLE_ROW_INVALID: return RAKHUBOLE_CODE_BODY;
+    case RAKHUBOLE_ROW_SHORT: return RAKHUBOLE_SHORT_BODY;
+    default: return RAKHUBOLE_OTHER_BODY;
     }
 }
 

@@ -26,7 +26,7 @@ extern "C" {
 
 /* The version of this interface: its calls, answers, refusals and rows. The
  * first number changes where a caller has to change. */
-#define RAKHUBOLE_VERSION "2.0"
+#define RAKHUBOLE_VERSION "3.0"
 
 /* The refusal in an answer, 0 for none. */
 #define RAKHUBOLE_REFUSAL(answer) ((unsigned)((answer) & 0xFF))
@@ -160,7 +160,9 @@ uint64_t rakhubole_j1850_report(const uint8_t *supplement, size_t supplement_len
                                 uint8_t *out, size_t out_length);
 
 #define RAKHUBOLE_ROWS_LENGTH(answer) ((size_t)((answer) >> 8 & 0xFFFFFF))
-#define RAKHUBOLE_ROWS_MOST 150
+/* Sixteen Numbers, and the three last rows: 310 bytes. */
+#define RAKHUBOLE_ROWS_MOST \
+    (RAKHUBOLE_ITEMS_MOST * (1 + RAKHUBOLE_NUMBER_BODY) + 3 * (1 + RAKHUBOLE_OTHER_BODY))
 
 /* Reports a message of ISO 9141-2 under the SAE tables and a supplement: rows
  * and answer as rakhubole_j1850_report gives them, the response Answered with 0.
@@ -173,7 +175,7 @@ uint64_t rakhubole_iso9141_report(const uint8_t *supplement, size_t supplement_l
 /* A row is its kind and a body, numbers with the most significant byte first.
  * Codes and raw numbers are the item's own bits, zeros before them. */
 enum {
-    /* an item's number: 8 bytes, the bits of a double */
+    /* an item's number: 18 bytes, a fraction and the double that it gives */
     RAKHUBOLE_ROW_NUMBER = 1,
     /* an item's code: 4 bytes. A State's lies within the limits of its SLOT;
      * for some such codes SAE prints no state (docs/SAE-TABLES.md). */
@@ -193,6 +195,31 @@ enum {
     RAKHUBOLE_ROW_ANSWERED = 10,
     /* the last row: 1 byte, the verdict */
     RAKHUBOLE_ROW_VERDICT = 11
+};
+
+/* How many items a report has at most. */
+enum { RAKHUBOLE_ITEMS_MOST = 16 };
+
+/* The bytes of a row's body: a Number's; that of a State, Bits, Text, Digits or
+ * Invalid; a Short's, which has none; and that of any other row. */
+enum {
+    RAKHUBOLE_NUMBER_BODY = 18,
+    RAKHUBOLE_CODE_BODY = 4,
+    RAKHUBOLE_SHORT_BODY = 0,
+    RAKHUBOLE_OTHER_BODY = 1
+};
+
+/* Where the three parts of a Number stand in its body. The double is the whole
+ * number above the line over the divisor, divided once. The fraction is as the
+ * SLOT gives it, unreduced: 300/3, not 100/1. */
+enum {
+    /* 8 bytes: the bits of a double, never a NaN or an infinity */
+    RAKHUBOLE_NUMBER_DOUBLE = 0,
+    /* 8 bytes: the whole number, signed, in two's complement; its size is at
+     * most 2 to the 49th */
+    RAKHUBOLE_NUMBER_ABOVE = 8,
+    /* 2 bytes: the divisor, 1 to 65535 */
+    RAKHUBOLE_NUMBER_DIVISOR = 16
 };
 
 /* The body of an Unknown row. */
