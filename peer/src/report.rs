@@ -6,6 +6,7 @@ pub mod double;
 pub mod item;
 pub mod line;
 pub mod neighbours;
+pub mod number;
 pub mod promise;
 pub mod rows;
 pub mod scene;

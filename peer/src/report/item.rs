@@ -1,8 +1,8 @@
 //! Item lines.
 
 use super::bits::signed;
-use super::double::quotient;
 use super::line::{unknown, Line};
+use super::number::Number;
 use crate::sae::form::*;
 use crate::sae::{Prn, Slot};
 
@@ -118,10 +118,10 @@ fn is_outside(slot: &Slot, raw: u32) -> bool {
     !(lowest..=highest).contains(&raw_number(slot, raw))
 }
 
-/// The whole number above the line, divided once.
-fn value(slot: &Slot, raw: u32) -> u64 {
+/// The whole number above the line over the divisor.
+fn value(slot: &Slot, raw: u32) -> Number {
     let product = raw_number(slot, raw) * i64::from(slot.multiplier);
-    quotient(product + i64::from(slot.offset), slot.divisor)
+    Number::of(product + i64::from(slot.offset), slot.divisor)
 }
 
 /// The bits in pieces of `size`, the last first.

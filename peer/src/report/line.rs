@@ -1,5 +1,6 @@
 //! The lines of a report and their rows.
 
+use super::number::{self, Number};
 use crate::supplement::record::PLACES;
 
 /// The kinds of row.
@@ -18,18 +19,25 @@ pub mod row_kind {
 }
 
 /// The body's length by kind of row, from kind 1 on.
-const BODIES: [usize; 11] = [8, 4, 4, 4, 4, 4, 0, 1, 1, 1, 1];
+const BODIES: [usize; 11] = [number::BODY, 4, 4, 4, 4, 4, 0, 1, 1, 1, 1];
 
 /// The length of a row of this kind, kind byte and body.
-pub const fn row_length(kind: u8) -> Option<usize> {
+pub fn row_length(kind: u8) -> Option<usize> {
     match kind {
-        row_kind::NUMBER..=row_kind::VERDICT => Some(1 + BODIES[kind as usize - 1]),
+        row_kind::NUMBER..=row_kind::VERDICT => Some(length_of(kind)),
         _ => None,
     }
 }
 
+const fn length_of(kind: u8) -> usize {
+    1 + BODIES[kind as usize - 1]
+}
+
 /// The longest report: sixteen Numbers, remainder, response and verdict.
-pub const LONGEST: usize = PLACES * (1 + BODIES[0]) + 3 * (1 + BODIES[8]);
+pub const LONGEST: usize = PLACES * length_of(row_kind::NUMBER)
+    + length_of(row_kind::LEFT)
+    + length_of(row_kind::ANSWERED)
+    + length_of(row_kind::VERDICT);
 
 /// The Unknown numbers.
 pub mod unknown {
@@ -56,8 +64,7 @@ pub mod verdict {
 
 #[derive(Clone, Copy, Debug, PartialEq)]
 pub enum Line {
-    /// The bits of a double.
-    Number(u64),
+    Number(Number),
     State(u32),
     Bits(u32),
     Text(u32),
@@ -75,7 +82,7 @@ pub enum Line {
 pub fn row(line: &Line) -> Vec<u8> {
     use row_kind::*;
     match *line {
-        Line::Number(bits) => with_body(NUMBER, &bits.to_be_bytes()),
+        Line::Number(number) => with_body(NUMBER, &number.body()),
         Line::State(code) => with_body(STATE, &code.to_be_bytes()),
         Line::Bits(code) => with_body(BITS, &code.to_be_bytes()),
         Line::Text(code) => with_body(TEXT, &code.to_be_bytes()),
@@ -116,9 +123,12 @@ mod tests {
 
     #[test]
     fn rows() {
-        let number = Line::Number(101.0_f64.to_bits());
+        let number = Line::Number(Number::of(101, 1));
+        let body = [
+            0x40, 0x59, 0x40, 0, 0, 0, 0, 0, 0, 0, 0, 0, 0, 0, 0, 0x65, 0, 1,
+        ];
         let printed: [(Line, &[u8]); 10] = [
-            (number, &[1, 0x40, 0x59, 0x40, 0, 0, 0, 0, 0]),
+            (number, &[&[1], &body[..]].concat()),
             (Line::State(0x25), &[2, 0, 0, 0, 0x25]),
             (Line::Bits(0x8000_0001), &[3, 0x80, 0, 0, 1]),
             (Line::Text(0x4142), &[4, 0, 0, 0x41, 0x42]),
@@ -136,9 +146,14 @@ mod tests {
     }
 
     #[test]
+    fn the_longest_report_has_310_bytes() {
+        assert_eq!(LONGEST, 310);
+    }
+
+    #[test]
     fn verdicts() {
         let shown = [
-            Line::Number(7),
+            Line::Number(Number::of(7, 1)),
             Line::State(1),
             Line::Bits(2),
             Line::Text(3),

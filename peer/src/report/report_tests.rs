@@ -1,4 +1,5 @@
 use super::line::LONGEST;
+use super::number::Number;
 use super::scene::{own_rows, plain, whole_slot, Sample, Scene};
 use super::*;
 use crate::case::Case;
@@ -21,6 +22,25 @@ fn bench_supplement() -> Vec<u8> {
 fn bench_case(data: &[u8]) -> Case {
     let first = checked(&[&[0x48, 0x6B, 0x10][..], data].concat());
     Case::report(bench_supplement(), (first, Vec::new()))
+}
+
+#[test]
+fn the_whole_report() {
+    let whole = bench_case(&[0x41, 0x65, 0x80]);
+    let rows = [
+        &[1, 0x40, 0x59, 0x40, 0, 0, 0, 0, 0][..],
+        &[0, 0, 0, 0, 0, 0, 0, 0x65, 0, 1],
+        &[1, 0, 0, 0, 0, 0, 0, 0, 0],
+        &[0, 0, 0, 0, 0, 0, 0, 0, 0, 0x80],
+        &[9, 0, 10, 0, 11, 1],
+    ];
+    let rows = rows.concat();
+    assert_eq!(rows.len(), 44);
+    for out_length in [44, 45, LONGEST] {
+        let case = whole.clone().lent(out_length);
+        assert_eq!(case.answer(), (44 << 8, rows.clone()));
+    }
+    assert_eq!(whole.lent(43).answer(), (8, Vec::new()));
 }
 
 #[test]
@@ -74,7 +94,7 @@ fn rows_of(samples: &[Sample], data: usize) -> Vec<u8> {
 fn places_lost_and_past() {
     let (known, missing) = (plain(0, 8, 0), Sample::missing(0x2001));
     let unknown_then = |last: Sample| rows_of(&[known, missing, last], 3);
-    let zero = [1, 0, 0, 0, 0, 0, 0, 0, 0];
+    let zero = line::row(&Line::Number(Number::of(0, 1)));
     let expected = [&zero[..], &[8, 1, 8, 2, 8, 2, 10, 0, 11, 3]].concat();
     assert_eq!(unknown_then(known), expected);
     assert_eq!(unknown_then(missing), expected);
@@ -90,7 +110,7 @@ fn the_place_goes_on_after_other_unknowns() {
     let without_slot = Sample::own(prn, None, 7);
     let wide = Sample::own(wide, Some(wide_slot), 1);
     let rows = rows_of(&[without_slot, wide, plain(0, 4, 9)], 6);
-    let nine = [1, 0x40, 0x22, 0, 0, 0, 0, 0, 0];
+    let nine = line::row(&Line::Number(Number::of(9, 1)));
     let expected = [&[8, 3, 8, 6][..], &nine, &[9, 0, 10, 0, 11, 3]].concat();
     assert_eq!(rows, expected);
 }
@@ -162,10 +182,11 @@ fn both_buses_share_layouts_and_lines() {
 fn a_message_of_another_priority_finds_the_layout() {
     let layout = Layout::of_key([0x08, 0x6A, 1, 0x01]).with_prns(&[0x1025]);
     let message = [0x68, 0x6A, 0xF1, 0x01, 0x0C, 0xD0];
-    let rows = [1, 0x40, 0x28, 0, 0, 0, 0, 0, 0, 9, 0, 10, 0, 11, 1];
-    let answer = iso_answer(&layout_record(&layout), &message, 15);
-    assert_eq!(answer, (15 << 8, rows.to_vec()));
-    assert_eq!(iso_answer(&layout_record(&layout), &message, 14).0, 8);
+    let mut rows = vec![1, 0x40, 0x28, 0, 0, 0, 0, 0, 0];
+    rows.extend([0, 0, 0, 0, 0, 0, 0, 12, 0, 1, 9, 0, 10, 0, 11, 1]);
+    let answer = iso_answer(&layout_record(&layout), &message, 25);
+    assert_eq!(answer, (25 << 8, rows));
+    assert_eq!(iso_answer(&layout_record(&layout), &message, 24).0, 8);
 }
 
 #[test]

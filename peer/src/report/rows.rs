@@ -1,6 +1,8 @@
-//! Rows taken apart again, by their kinds and lengths alone.
+//! Rows taken apart again, by their kinds and lengths; of the bodies a Number's
+//! alone has to agree with itself.
 
 use super::line::{row_kind, row_length, verdict};
+use super::number::Number;
 use crate::supplement::record::PLACES;
 
 /// A report's rows by name; each is its kind and body.
@@ -17,9 +19,9 @@ pub fn parse(bytes: &[u8]) -> Option<Rows<'_>> {
     let rows = split(bytes)?;
     let (items, [remainder, response, last]) = rows.split_last_chunk()?;
     let is_among = |row: &[u8], kinds: &[u8]| kinds.contains(&row[0]);
-    let (number, unknown) = (row_kind::NUMBER, row_kind::UNKNOWN);
+    let unknown = row_kind::UNKNOWN;
     let is_sound = items.len() <= PLACES
-        && items.iter().all(|row| (number..=unknown).contains(&row[0]))
+        && items.iter().all(|row| is_item(row))
         && is_among(remainder, &[row_kind::SHORT, unknown, row_kind::LEFT])
         && is_among(response, &[unknown, row_kind::ANSWERED])
         && is_among(last, &[row_kind::VERDICT])
@@ -44,10 +46,25 @@ fn split(bytes: &[u8]) -> Option<Vec<&[u8]>> {
     Some(rows)
 }
 
+fn is_item(row: &[u8]) -> bool {
+    match row[0] {
+        row_kind::NUMBER => number(row).is_some(),
+        kind => (row_kind::STATE..=row_kind::UNKNOWN).contains(&kind),
+    }
+}
+
 impl<'a> Rows<'a> {
     /// Every line, the remainder and the response last.
     pub fn lines(&self) -> Vec<&'a [u8]> {
         [&self.items[..], &[self.remainder, self.response]].concat()
+    }
+}
+
+/// The Number of a row, if it is one.
+pub fn number(row: &[u8]) -> Option<Number> {
+    match row {
+        [row_kind::NUMBER, body @ ..] => Number::of_body(body),
+        _ => None,
     }
 }
 
@@ -79,18 +96,40 @@ pub fn left(row: &[u8]) -> Option<usize> {
 mod tests {
     use super::*;
 
+    /// 101/1 and 0/128.
+    fn whole_report() -> Vec<u8> {
+        let mut bytes = vec![1, 0x40, 0x59, 0x40, 0, 0, 0, 0, 0];
+        bytes.extend([0, 0, 0, 0, 0, 0, 0, 0x65, 0, 1, 1]);
+        bytes.extend([0; 16]);
+        bytes.extend([0, 0x80, 9, 0, 10, 0, 11, 1]);
+        bytes
+    }
+
     #[test]
     fn the_whole_report() {
-        let mut bytes = vec![1, 0x40, 0x59, 0x40, 0, 0, 0, 0, 0, 1];
-        bytes.extend([0; 8]);
-        bytes.extend([9, 0, 10, 0, 11, 1]);
+        let bytes = whole_report();
         let rows = parse(&bytes).unwrap();
-        assert_eq!(rows.items, [&bytes[..9], &bytes[9..18]]);
+        assert_eq!(rows.items, [&bytes[..19], &bytes[19..38]]);
+        let numbers: Vec<Option<Number>> = rows.items.iter().map(|row| number(row)).collect();
+        assert_eq!(
+            numbers,
+            [(101, 1), (0, 128)].map(|(above, divisor)| Some(Number::of(above, divisor)))
+        );
+        assert_eq!(number(rows.remainder), None);
         assert_eq!((rows.remainder, rows.response), (&[9, 0][..], &[10, 0][..]));
         assert_eq!(rows.verdict, 1);
         assert_eq!(rows.lines().len(), 4);
         for length in 0..bytes.len() {
             assert_eq!(parse(&bytes[..length]), None);
+        }
+    }
+
+    #[test]
+    fn a_double_of_another_fraction() {
+        for (place, byte) in [(1, 0xC0), (16, 0x66), (18, 2), (27, 1), (37, 0)] {
+            let mut other = whole_report();
+            other[place] = byte;
+            assert_eq!(parse(&other), None, "{place} {byte}");
         }
     }
 

@@ -9,10 +9,10 @@ use crate::random::Random;
 use crate::text::{hex, hex_answer};
 
 /// The buffer whose start is lent as output, and what fills it before a call.
-const BUFFER: usize = 160;
+const BUFFER: usize = MOST_LENT + BEHIND;
 const FILLING: u8 = 0xA5;
 /// How many bytes behind the lent output are shown.
-const BEHIND: usize = BUFFER - MOST_LENT;
+const BEHIND: usize = 2;
 
 const SEED: u64 = 21781;
 

@@ -64,12 +64,17 @@ fn case(supplement: Vec<u8>, items: &[u8]) -> Case {
     Case::report(supplement, (first, Vec::new()))
 }
 
-fn number(value: f64) -> Vec<u8> {
-    [&[1], &value.to_be_bytes()[..]].concat()
+/// A Number's row: the whole number above the line, the divisor, and the double.
+fn number(above: i64, divisor: u16, double: f64) -> Vec<u8> {
+    let (double, above) = (double.to_be_bytes(), above.to_be_bytes());
+    [&[1], &double[..], &above, &divisor.to_be_bytes()].concat()
 }
 
-pub const FIRST_ITEM: [u8; 9] = [1, 0x40, 0x59, 0x40, 0, 0, 0, 0, 0];
-pub const SECOND_ITEM: [u8; 9] = [1, 0, 0, 0, 0, 0, 0, 0, 0];
+/// 101/1 and 0/128.
+pub const FIRST_ITEM: [u8; 19] = [
+    1, 0x40, 0x59, 0x40, 0, 0, 0, 0, 0, 0, 0, 0, 0, 0, 0, 0, 0x65, 0, 1,
+];
+pub const SECOND_ITEM: [u8; 19] = [1, 0, 0, 0, 0, 0, 0, 0, 0, 0, 0, 0, 0, 0, 0, 0, 0, 0, 0x80];
 pub const CLEAR: [u8; 6] = [9, 0, 10, 0, 11, 1];
 /// After an Invalid line.
 const FLAGGED: [u8; 6] = [9, 0, 10, 0, 11, 2];
@@ -84,9 +89,9 @@ fn whole_reports() -> Vec<Bench> {
     let less = case(supplement, &[0x65]);
     vec![
         accepted("whole report", whole.clone(), &rows),
-        accepted("lent 24", whole.clone().lent(24), &rows),
-        accepted("lent 25", whole.clone().lent(25), &rows),
-        refused("lent 23", whole.clone().lent(23), 8),
+        accepted("lent 44", whole.clone().lent(44), &rows),
+        accepted("lent 45", whole.clone().lent(45), &rows),
+        refused("lent 43", whole.clone().lent(43), 8),
         refused("lent nothing", whole.lent(0), 8),
         accepted("one data byte more", more, &left),
         accepted("one data byte less", less, &short),
@@ -102,7 +107,8 @@ fn full_frames() -> Vec<Bench> {
     let nine = layout_record(&Layout::of_key(key).with_prns(&[0x1025; 9]));
     let ten_data = checked(&[0x18, 0x41, 1, 2, 3, 4, 5, 6, 7, 8, 9]);
     let one_byte_form = Case::report(nine, (ten_data, Vec::new()));
-    let mut counted: Vec<u8> = (1..=9).flat_map(|value| number(value.into())).collect();
+    let over_1 = |above: i32| number(above.into(), 1, above.into());
+    let mut counted: Vec<u8> = (1..=9).flat_map(over_1).collect();
     counted.extend(CLEAR);
     let bare = layout_record(&Layout::of_key([0x00, 0x6B, 0, 0]));
     let answered = (checked(&[0x00, 0x6B, 0x10]), vec![7; 8]);
@@ -130,31 +136,33 @@ fn signed(raw: u8) -> Case {
 }
 
 fn values() -> Vec<Bench> {
-    let clear = |name, case, value: f64| accepted(name, case, &[&number(value), &CLEAR]);
+    let clear = |name, case, above, divisor, double: f64| {
+        accepted(name, case, &[&number(above, divisor, double), &CLEAR])
+    };
     let invalid = |name, case, raw: u8| accepted(name, case, &[&[6, 0, 0, 0, raw], &FLAGGED]);
+    let at_73 = of_slot(8, 73, &[0]);
+    let at_77 = of_slot(8, 77, &[149]);
+    let at_61 = of_slot(16, 61, &[255, 255]);
+    let at_241 = |raw| of_slot(8, 241, &[raw]);
     vec![
-        clear("P1", of_slot(8, 77, &[150]), 100.0),
+        clear("P1", of_slot(8, 77, &[150]), 300, 3, 100.0),
         invalid("P2", of_slot(8, 77, &[151]), 151),
-        clear("P3", of_slot(8, 82, &[240]), 90.0),
+        clear("P3", of_slot(8, 82, &[240]), 360, 4, 90.0),
         invalid("P4", of_slot(8, 82, &[241]), 241),
-        clear("P5", of_slot(8, 92, &[0]), -100.0),
-        clear("P6", of_slot(8, 92, &[128]), 0.0),
-        clear("P7", of_slot(16, 3, &[0, 0]), -70.0),
-        clear("P8", of_slot(8, 102, &[39]), -1.0),
-        clear("P9", signed(0x80), -128.0),
-        clear("P10", signed(0xFF), -1.0),
-        clear("UNM-08-111 at 240", of_slot(8, 111, &[240]), 360.0),
+        clear("P5", of_slot(8, 92, &[0]), -12800, 128, -100.0),
+        clear("P6", of_slot(8, 92, &[128]), 0, 128, 0.0),
+        clear("P7", of_slot(16, 3, &[0, 0]), -17920, 256, -70.0),
+        clear("P8", of_slot(8, 102, &[39]), -1, 1, -1.0),
+        clear("P9", signed(0x80), -128, 1, -128.0),
+        clear("P10", signed(0xFF), -1, 1, -1.0),
+        clear("UNM-08-111 at 240", of_slot(8, 111, &[240]), 720, 2, 360.0),
         invalid("UNM-08-111 at 241", of_slot(8, 111, &[241]), 241),
-        clear("UNM-08-241 at 25", of_slot(8, 241, &[25]), 102400.0),
-        clear("UNM-08-241 at 26", of_slot(8, 241, &[26]), 106496.0),
-        clear("UNM-08-241 at 255", of_slot(8, 241, &[255]), 1044480.0),
-        clear(
-            "UNM-16-61 at 65535",
-            of_slot(16, 61, &[255, 255]),
-            4194240.0,
-        ),
-        clear("UNM-08-73 at 0", of_slot(8, 73, &[0]), -40.0),
-        clear("UNM-08-77 at 149", of_slot(8, 77, &[149]), 298.0 / 3.0),
+        clear("UNM-08-241 at 25", at_241(25), 102400, 1, 102400.0),
+        clear("UNM-08-241 at 26", at_241(26), 106496, 1, 106496.0),
+        clear("UNM-08-241 at 255", at_241(255), 1044480, 1, 1044480.0),
+        clear("UNM-16-61 at 65535", at_61, 4194240, 1, 4194240.0),
+        clear("UNM-08-73 at 0", at_73, -80, 2, -40.0),
+        clear("UNM-08-77 at 149", at_77, 298, 3, 298.0 / 3.0),
     ]
 }
 

@@ -17,7 +17,7 @@ use crate::supplement::layout::Layout;
 use crate::supplement::{refusal, MOST_BYTES};
 
 /// The longest output that a case lends.
-pub const MOST_LENT: usize = 158;
+pub const MOST_LENT: usize = LONGEST + 8;
 
 pub fn cases(random: &mut Random) -> Vec<Case> {
     let groups = [

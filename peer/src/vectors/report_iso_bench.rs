@@ -37,7 +37,9 @@ fn shared_layout() -> Vec<Bench> {
     let supplement = layout_record(&Layout::of_key(key).with_prns(&[0x1025]));
     let frame = checked(&[0x68, 0x6A, 0xF1, 0x01, 0x0C]);
     let message = [0x68, 0x6A, 0xF1, 0x01, 0x0C, 0xD0];
-    let twelve = [1, 0x40, 0x28, 0, 0, 0, 0, 0, 0];
+    let twelve = [
+        1, 0x40, 0x28, 0, 0, 0, 0, 0, 0, 0, 0, 0, 0, 0, 0, 0, 12, 0, 1,
+    ];
     let rows = [&twelve[..], &CLEAR];
     let on_j1850 = on(Bus::J1850, supplement.clone(), &frame);
     let on_iso = on(Bus::Iso9141, supplement, &message);
@@ -56,8 +58,8 @@ fn whole_reports() -> Vec<Bench> {
     let more = case(&[0x48, 0x6B, 0x10, 0x41, 0x65, 0x80, 0x99, 0x82]);
     vec![
         accepted("ISO: whole report", whole.clone(), &rows),
-        accepted("ISO: lent 24", whole.clone().lent(24), &rows),
-        refused("ISO: lent 23", whole.clone().lent(23), 8),
+        accepted("ISO: lent 44", whole.clone().lent(44), &rows),
+        refused("ISO: lent 43", whole.clone().lent(43), 8),
         refused("ISO: lent nothing", whole.lent(0), 8),
         accepted("ISO: one data byte more", more, &left),
     ]
