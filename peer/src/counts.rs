@@ -3,7 +3,8 @@
 use crate::case::Call;
 use crate::frame::bus::Bus;
 use crate::report::line::unknown;
-use crate::report::rows::{parse, unknown_number};
+use crate::report::number::Number;
+use crate::report::rows::{number, parse, unknown_number};
 use std::collections::BTreeMap;
 
 #[derive(Default)]
@@ -77,6 +78,23 @@ fn refusals(call: Call) -> &'static [u64] {
 
 const SIXTEEN_ITEMS: &str = "sixteen items";
 
+/// A class of Numbers, and whether one belongs to it.
+type Fraction = (&'static str, fn(&Number) -> bool);
+
+/// What a fraction told wrong would lose: its sign, its upper 32 bits, its divisor,
+/// or a factor that both parts have.
+const FRACTIONS: [Fraction; 7] = [
+    ("above negative", |number| number.above < 0),
+    ("above 0 over more than 1", |number| {
+        number.above == 0 && number.divisor > 1
+    }),
+    ("above over 2^32", |number| number.above > 1 << 32),
+    ("above under -2^32", |number| number.above < -(1 << 32)),
+    ("divisor 1", |number| number.divisor == 1),
+    ("divisor over 1", |number| number.divisor > 1),
+    ("reducible", Number::is_reducible),
+];
+
 /// The classes of answer that a call has.
 pub fn classes(call: Call) -> Vec<String> {
     let mut classes = vec![class(call, 0)];
@@ -89,6 +107,7 @@ pub fn classes(call: Call) -> Vec<String> {
         of_rows.extend((1..=10).map(|kind| format!("row {kind}")));
         let unknown = (1..=8).filter(is_there);
         of_rows.extend(unknown.map(|number| format!("Unknown {number}")));
+        of_rows.extend(FRACTIONS.map(|(class, _)| class.to_string()));
         of_rows.push(SIXTEEN_ITEMS.to_string());
         classes.extend(of_rows.iter().map(|class| on_bus(call.bus(), class)));
     }
@@ -111,7 +130,13 @@ fn classes_of(call: Call, answer: u64, written: &[u8]) -> Vec<String> {
         of_rows.push(format!("row {}", line[0]));
         let unknown = unknown_number(line);
         of_rows.extend(unknown.map(|number| format!("Unknown {number}")));
+        of_rows.extend(number(line).iter().flat_map(fractions_of));
     }
     classes.extend(of_rows.iter().map(|class| on_bus(call.bus(), class)));
     classes
+}
+
+fn fractions_of(number: &Number) -> Vec<String> {
+    let fractions = FRACTIONS.iter().filter(|(_, is_of_it)| is_of_it(number));
+    fractions.map(|(class, _)| class.to_string()).collect()
 }

@@ -3,6 +3,9 @@
 use super::*;
 use crate::frame::iso::is_first_byte_wrong;
 use crate::frame::{check_byte, MOST_BYTES};
+use crate::report::line::{self, Line, LONGEST};
+use crate::report::number::Number;
+use crate::report::rows::{number, parse};
 use std::slice;
 
 type Answer = (u64, Vec<u8>);
@@ -130,16 +133,86 @@ fn bent_writers_of_iso() {
 fn bent_reports_of_iso() {
     // a layout is found by the priority too
     let by_priority: Bend = |call, inputs, answer| match (call, &answer.1[..]) {
-        (Call::IsoReport, [_, ..]) if inputs[1][0] > 0x1F => call.answer(&[&[], inputs[1]], 150),
+        (Call::IsoReport, [_, ..]) if inputs[1][0] > 0x1F => {
+            call.answer(&[&[], inputs[1]], LONGEST)
+        }
         _ => answer,
     };
     assert!(is_found(reports, by_priority));
     // a large supplement hides what a small one shows
     let by_size: Bend = |call, inputs, answer| match (call, &answer.1[..]) {
-        (Call::IsoReport, [_, ..]) if inputs[0].len() > 80 => call.answer(&[&[], inputs[1]], 150),
+        (Call::IsoReport, [_, ..]) if inputs[0].len() > 80 => {
+            call.answer(&[&[], inputs[1]], LONGEST)
+        }
         _ => answer,
     };
     assert!(is_found(promise::run, by_size));
+}
+
+/// The report with its first Number bent.
+fn with_bent_number(answer: Answer, bend: fn(Number) -> Number) -> Answer {
+    let Some(row) = parse(&answer.1).and_then(|rows| rows.items.first().copied()) else {
+        return answer;
+    };
+    let Some(number) = number(row) else {
+        return answer;
+    };
+    let bent = line::row(&Line::Number(bend(number)));
+    (answer.0, [&bent, &answer.1[bent.len()..]].concat())
+}
+
+#[test]
+fn bent_fractions() {
+    let bends: [Bend; 5] = [
+        // of the low 32 bits alone, without a sign and with one
+        |_, _, answer| {
+            with_bent_number(answer, |number| Number {
+                above: i64::from(number.above as u32),
+                ..number
+            })
+        },
+        |_, _, answer| {
+            with_bent_number(answer, |number| Number {
+                above: i64::from(number.above as i32),
+                ..number
+            })
+        },
+        |_, _, answer| {
+            with_bent_number(answer, |number| Number {
+                above: number.above.abs(),
+                ..number
+            })
+        },
+        // the double is right, the fraction reduced
+        |_, _, answer| {
+            with_bent_number(answer, |number| match number.above % 3 {
+                0 if number.divisor == 3 => Number::of(number.above / 3, 1),
+                _ => number,
+            })
+        },
+        |_, _, answer| {
+            with_bent_number(answer, |number| match number.above {
+                0 => Number::of(0, 1),
+                _ => number,
+            })
+        },
+    ];
+    assert_each_found(reports, &bends);
+}
+
+/// With many records a fraction is another, of the same double.
+#[test]
+fn a_fraction_that_records_change() {
+    let bend: Bend = |_, inputs, answer| {
+        if inputs[0].len() < 100 {
+            return answer;
+        }
+        with_bent_number(answer, |number| match number.divisor {
+            divisor @ ..0x8000 => Number::of(2 * number.above, 2 * divisor),
+            _ => number,
+        })
+    };
+    assert!(is_found(promise::run, bend));
 }
 
 #[test]

@@ -93,8 +93,14 @@ fn sample(room: usize, scene: &Scene, random: &mut Random) -> Sample {
     }
 }
 
-/// Bits for an item; now and then the offset makes their value zero.
+/// Bits for an item; now and then the scale is made of the ends of its fields, or
+/// the offset makes their value zero.
 fn scaled(prn: Prn, mut slot: Slot, random: &mut Random) -> Sample {
+    if random.once_in(4) {
+        slot.multiplier = random.pick(&[0, 1, u16::MAX, u16::MAX]);
+        slot.divisor = random.pick(&[1, 1, 2, u16::MAX]);
+        slot.offset = random.pick(&[i32::MIN, -1, 0, 1, i32::MAX]);
+    }
     let raw = raw(&slot, random);
     if random.once_in(16) && slot.width <= 32 {
         let number = raw_number(&slot, raw as u32 & all_ones(slot.width));
