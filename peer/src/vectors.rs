@@ -8,6 +8,7 @@ mod frame_reads;
 mod frame_writes;
 pub mod report;
 mod report_bench;
+mod report_extremes;
 mod report_frames;
 mod report_iso;
 mod report_iso_bench;

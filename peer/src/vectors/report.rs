@@ -22,16 +22,16 @@ const FORMAT: Format = Format {
 };
 
 /// The files, a line of counts, and the classes of answer without a case. The
-/// bench cases and the easy errors come first, each with its name and the
-/// answer that the papers print, written by hand and not computed; then come
-/// the cases that the rules answer: those of J1850, such of them as ISO 9141-2
-/// has too, and its own.
+/// bench cases, the easy errors and the extremes of Numbers come first, each
+/// with its name and its answer, written by hand and not computed by the rules;
+/// then come the cases that the rules answer: those of J1850, such of them as
+/// ISO 9141-2 has too, and its own.
 pub fn make() -> (Files, String, Vec<String>) {
     let mut files = Files::default();
     for bench in report_bench::all() {
         let is_new = files.add(&FORMAT, &bench.case, (bench.number, bench.rows));
         assert!(is_new, "{} is there already", bench.name);
-        files.name_last(bench.name);
+        files.name_last(&bench.name);
     }
     let bench = files.cases();
     let mut random = Random::new(SEED);

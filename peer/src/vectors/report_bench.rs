@@ -1,7 +1,7 @@
 //! The bench cases and the easy errors, with the answers that the papers print:
 //! written by hand, not computed by the rules.
 
-use super::report_iso_bench;
+use super::{report_extremes, report_iso_bench};
 use crate::case::Case;
 use crate::frame::check_byte::{check_byte, checked};
 use crate::report::scene::own_rows;
@@ -14,26 +14,26 @@ use crate::supplement::refused_answer;
 
 /// A case by name, with its number and its rows.
 pub struct Bench {
-    pub name: &'static str,
+    pub name: String,
     pub case: Case,
     pub number: u64,
     pub rows: Vec<u8>,
 }
 
-pub fn accepted(name: &'static str, case: Case, rows: &[&[u8]]) -> Bench {
+pub fn accepted(name: impl Into<String>, case: Case, rows: &[&[u8]]) -> Bench {
     let rows = rows.concat();
     Bench {
-        name,
+        name: name.into(),
         case,
         number: (rows.len() as u64) << 8,
         rows,
     }
 }
 
-pub fn refused(name: &'static str, case: Case, number: u64) -> Bench {
+pub fn refused(name: impl Into<String>, case: Case, number: u64) -> Bench {
     let rows = Vec::new();
     Bench {
-        name,
+        name: name.into(),
         case,
         number,
         rows,
@@ -49,6 +49,7 @@ pub fn all() -> Vec<Bench> {
         wrong_counts(),
         easy_errors(),
         report_iso_bench::all(),
+        report_extremes::all(),
     ];
     groups.into_iter().flatten().collect()
 }
@@ -66,6 +67,10 @@ fn case(supplement: Vec<u8>, items: &[u8]) -> Case {
 
 /// A Number's row: the whole number above the line, the divisor, and the double.
 fn number(above: i64, divisor: u16, double: f64) -> Vec<u8> {
+    number_of_bits(double.to_bits(), above as u64, divisor)
+}
+
+pub fn number_of_bits(double: u64, above: u64, divisor: u16) -> Vec<u8> {
     let (double, above) = (double.to_be_bytes(), above.to_be_bytes());
     [&[1], &double[..], &above, &divisor.to_be_bytes()].concat()
 }
