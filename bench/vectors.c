@@ -71,6 +71,14 @@ static void report_case(const char *line, struct request *request)
     request->out_length = number_at(line, 4);
 }
 
+static void require_room(const struct request *request, const char *where)
+{
+    if (request->out_length <= BUFFER)
+        return;
+    fprintf(stderr, "%s lends %zu bytes, more than %d\n", where, request->out_length, BUFFER);
+    exit(1);
+}
+
 static size_t visit_file(const char *crates, const char *name,
                          void (*parse)(const char *, struct request *), visit *visitor, void *state)
 {
@@ -87,6 +95,7 @@ static size_t visit_file(const char *crates, const char *name,
         struct request request = {.out = output};
         parse(line, &request);
         snprintf(where, sizeof where, "%s, line %zu", path, ++cases);
+        require_room(&request, where);
         visitor(&request, where, state);
     }
     fclose(file);
