@@ -49,16 +49,17 @@ static void put_short(struct report *report)
     report->flagged = true;
 }
 
-/* The double, the whole number above the line in two's complement, the divisor. */
+/* The double, the whole number above the line in two's complement, the divisor:
+ * each as long as the header has it up to the next. */
 static void put_number(struct report *report, const struct slot_row *slot, int64_t number)
 {
     int64_t above = number * slot->multiplier + slot->offset;
     double value = (double)above / (double)slot->divisor;
     uint64_t bits;
     memcpy(&bits, &value, sizeof bits);
-    put_row(report, RAKHUBOLE_ROW_NUMBER, bits, sizeof bits);
-    put_bytes(report, (uint64_t)above, sizeof above);
-    put_bytes(report, slot->divisor, sizeof slot->divisor);
+    put_row(report, RAKHUBOLE_ROW_NUMBER, bits, RAKHUBOLE_NUMBER_ABOVE);
+    put_bytes(report, (uint64_t)above, RAKHUBOLE_NUMBER_DIVISOR - RAKHUBOLE_NUMBER_ABOVE);
+    put_bytes(report, slot->divisor, RAKHUBOLE_NUMBER_BODY - RAKHUBOLE_NUMBER_DIVISOR);
 }
 
 /* The bits from a place on, at most 32 of them, zeros before them. */
