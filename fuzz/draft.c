@@ -2,6 +2,10 @@
 
 #include "format.h"
 #include "judge.h"
+#include "rakhubole.h"
+
+/* Bytes that may be lent behind the longest report. */
+#define SPARE_ROOM 16
 
 uint8_t take_byte(struct feed *feed)
 {
@@ -27,6 +31,11 @@ size_t take_length(struct feed *feed)
 {
     uint8_t byte = take_byte(feed);
     return byte < 0xF0 ? byte % 16 : (size_t)(byte - 0xEF) * 64;
+}
+
+size_t take_room(struct feed *feed)
+{
+    return take_16(feed) % (RAKHUBOLE_ROWS_MOST + SPARE_ROOM + 1);
 }
 
 void put(struct draft *draft, uint32_t number, size_t bytes)

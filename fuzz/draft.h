@@ -32,6 +32,9 @@ void put_run(struct draft *draft, struct feed *feed, size_t length);
 /* A length: nearly always up to 15, now and then up to 1,024. */
 size_t take_length(struct feed *feed);
 
+/* What is lent for the rows of a report: any length up to more than they have. */
+size_t take_room(struct feed *feed);
+
 /* Both runs of a frame, each behind its length. */
 void draft_frame(struct feed *feed, struct draft *first, struct draft *response);
 

@@ -93,7 +93,7 @@ def supplement_seeds(line):
 def report_seeds(line):
     bus, *words = line.split(" ")
     supplement, first, response = (bytes.fromhex(words[at]) for at in (1, 3, 5))
-    frame = bytes([int(words[6], 16)]) + short_run(first)
+    frame = bytes.fromhex(words[6]) + short_run(first)
     if bus == "J":
         frame += short_run(response)
     return REPORT_CALLS[bus], [END + frame + raw_steps(supplement),
