@@ -2,14 +2,38 @@
 
 #include "draft.h"
 #include "format.h"
+#include "judge.h"
 #include "rakhubole.h"
 
 #include <stdio.h>
 
-enum word { REFUSED, SUM_BEFORE, KIND, VERDICT, ROW, UNKNOWN, WORDS };
-static const char *const words[WORDS] = {
-    "refused", "3 before", "kind", "verdict", "row", "Unknown",
+/* Behind Unknown: of a report's room, then of its Numbers. */
+enum word {
+    REFUSED,
+    SUM_BEFORE,
+    KIND,
+    VERDICT,
+    ROW,
+    UNKNOWN,
+    ROOM_LEFT,
+    ROOM_SHORT,
+    WHOLE_UNDER,
+    WHOLE_BITS_OVER,
+    DIVISOR,
+    DIVISOR_OVER,
+    END_OF_FIELD,
+    WORDS
 };
+static const char *const words[WORDS] = {
+    "refused", "3 before", "kind", "verdict", "row", "Unknown", "room left", "room short by",
+    "whole number under", "its bits over", "divisor", "divisor over", "end of a field",
+};
+
+/* The ends of a Number's fields. The least whole number is that of an SNM, the
+ * most that of a UNM, both of 32 bits with the largest multiplier and offset. */
+enum { LEAST_WHOLE = 1, MOST_WHOLE, MOST_DIVISOR };
+#define LEAST_WHOLE_SIZE (UINT64_C(0xFFFF) * 0x80000000u + 0x80000000u)
+#define MOST_WHOLE_SIZE (UINT64_C(0xFFFF) * 0xFFFFFFFFu + 0x7FFFFFFFu)
 
 /* Every refusal, kind and reason is below this. */
 #define NUMBERS 64
@@ -36,6 +60,14 @@ static const char *const words[WORDS] = {
 #define VERDICTS SPAN(RAKHUBOLE_CLEAR, RAKHUBOLE_VERDICT_UNKNOWN)
 #define ROWS SPAN(RAKHUBOLE_ROW_NUMBER, RAKHUBOLE_ROW_ANSWERED)
 #define UNKNOWNS SPAN(RAKHUBOLE_UNKNOWN_PRN, RAKHUBOLE_UNKNOWN_LAYOUT)
+/* A whole number of more bits than this would be cut by a caller that keeps it
+ * in a word of so many. */
+#define WORD_BITS 32
+/* Just enough room and one byte less; Numbers of each sign, size and divisor. */
+#define ROOMS_AND_NUMBERS                                                                        \
+    [ROOM_LEFT] = ONE(0), [ROOM_SHORT] = ONE(1), [WHOLE_UNDER] = ONE(0),                         \
+    [WHOLE_BITS_OVER] = ONE(WORD_BITS), [DIVISOR] = ONE(1), [DIVISOR_OVER] = ONE(1),             \
+    [END_OF_FIELD] = SPAN(LEAST_WHOLE, MOST_DIVISOR)
 
 /* The numbers that the inputs of a call must reach. */
 static const uint64_t wanted[][WORDS] = {
@@ -45,7 +77,8 @@ static const uint64_t wanted[][WORDS] = {
     [CALL_REPORT] = {[REFUSED] = FRAME_REFUSALS | REPORT_REFUSALS,
                      [VERDICT] = VERDICTS,
                      [ROW] = ROWS,
-                     [UNKNOWN] = UNKNOWNS},
+                     [UNKNOWN] = UNKNOWNS,
+                     ROOMS_AND_NUMBERS},
     [CALL_ISO_READ] = {[REFUSED] = MESSAGE_REFUSALS,
                        [SUM_BEFORE] = ONE(RAKHUBOLE_FIRST_BYTE_WRONG)},
     [CALL_ISO_WRITE] = {[REFUSED] = MESSAGE_WRITE_REFUSALS},
@@ -53,7 +86,8 @@ static const uint64_t wanted[][WORDS] = {
                          [SUM_BEFORE] = ONE(RAKHUBOLE_FIRST_BYTE_WRONG),
                          [VERDICT] = VERDICTS,
                          [ROW] = ROWS,
-                         [UNKNOWN] = UNKNOWNS & ~ONE(RAKHUBOLE_UNKNOWN_RESPONSE)},
+                         [UNKNOWN] = UNKNOWNS & ~ONE(RAKHUBOLE_UNKNOWN_RESPONSE),
+                         ROOMS_AND_NUMBERS},
 };
 
 struct tally {
@@ -62,13 +96,51 @@ struct tally {
 };
 static struct tally tallies[CALLS];
 
-static size_t body_size(uint8_t kind)
+size_t body_size(uint8_t kind)
 {
     if (kind == RAKHUBOLE_ROW_NUMBER)
         return RAKHUBOLE_NUMBER_BODY;
     if (kind == RAKHUBOLE_ROW_SHORT)
         return RAKHUBOLE_SHORT_BODY;
     return kind <= RAKHUBOLE_ROW_INVALID ? RAKHUBOLE_CODE_BODY : RAKHUBOLE_OTHER_BODY;
+}
+
+static uint64_t number_of(const uint8_t *bytes, const uint8_t *end)
+{
+    uint64_t number = 0;
+    while (bytes < end)
+        number = number << 8 | *bytes++;
+    return number;
+}
+
+struct fraction fraction_of(const uint8_t *body)
+{
+    const uint8_t *divisor = body + RAKHUBOLE_NUMBER_DIVISOR;
+    uint64_t above = number_of(body + RAKHUBOLE_NUMBER_ABOVE, divisor);
+    bool is_negative = above >> 63;
+    return (struct fraction){
+        is_negative, is_negative ? 0 - above : above,
+        (uint16_t)number_of(divisor, body + RAKHUBOLE_NUMBER_BODY),
+    };
+}
+
+/* In branches, so that libFuzzer keeps an input for each. */
+static void count_number(struct tally *tally, struct fraction fraction)
+{
+    if (fraction.is_negative)
+        tally->counts[WHOLE_UNDER][0]++;
+    if (fraction.size >> WORD_BITS)
+        tally->counts[WHOLE_BITS_OVER][WORD_BITS]++;
+    if (fraction.divisor == 1)
+        tally->counts[DIVISOR][1]++;
+    else
+        tally->counts[DIVISOR_OVER][1]++;
+    if (fraction.is_negative && fraction.size == LEAST_WHOLE_SIZE)
+        tally->counts[END_OF_FIELD][LEAST_WHOLE]++;
+    if (!fraction.is_negative && fraction.size == MOST_WHOLE_SIZE)
+        tally->counts[END_OF_FIELD][MOST_WHOLE]++;
+    if (fraction.divisor == UINT16_MAX)
+        tally->counts[END_OF_FIELD][MOST_DIVISOR]++;
 }
 
 static void count_rows(struct tally *tally, const uint8_t *out, size_t length)
@@ -80,7 +152,30 @@ static void count_rows(struct tally *tally, const uint8_t *out, size_t length)
             tally->counts[ROW][out[at]]++;
         if (out[at] == RAKHUBOLE_ROW_UNKNOWN)
             tally->counts[UNKNOWN][out[at + 1]]++;
+        if (out[at] == RAKHUBOLE_ROW_NUMBER)
+            count_number(tally, fraction_of(out + at + 1));
     }
+}
+
+/* A report that one byte more would have had room for. */
+static bool is_one_short(const struct request *request, unsigned refusal)
+{
+    uint8_t rows[RAKHUBOLE_ROWS_MOST];
+    struct request longer = *request;
+    if (refusal != RAKHUBOLE_OUT_TOO_SHORT || !is_report(request->call))
+        return false;
+    longer.out = rows;
+    longer.out_length++;
+    return RAKHUBOLE_REFUSAL(answer_of(&judge_calls, &longer)) == 0;
+}
+
+static void count_report(struct tally *tally, const struct request *request, uint64_t answer,
+                         const uint8_t *out)
+{
+    size_t length = RAKHUBOLE_ROWS_LENGTH(answer);
+    if (length == request->out_length)
+        tally->counts[ROOM_LEFT][0]++;
+    count_rows(tally, out, length);
 }
 
 /* A message with a wrong sum whose first byte would be refused too. It is a
@@ -104,6 +199,8 @@ void count_classes(const struct request *request, uint64_t answer, const uint8_t
     unsigned refusal = RAKHUBOLE_REFUSAL(answer);
     if (is_sum_first(request, refusal))
         tally->counts[SUM_BEFORE][RAKHUBOLE_FIRST_BYTE_WRONG]++;
+    if (is_one_short(request, refusal))
+        tally->counts[ROOM_SHORT][1]++;
     if (refusal != 0) {
         tally->counts[REFUSED][refusal]++;
         return;
@@ -112,7 +209,7 @@ void count_classes(const struct request *request, uint64_t answer, const uint8_t
     if (request->call == CALL_READ)
         tally->counts[KIND][RAKHUBOLE_READ_KIND(answer)]++;
     if (is_report(request->call))
-        count_rows(tally, out, RAKHUBOLE_ROWS_LENGTH(answer));
+        count_report(tally, request, answer, out);
 }
 
 bool show_classes(enum call call)

@@ -6,6 +6,18 @@
 
 #include <stdbool.h>
 
+/* The bytes of a row behind its kind. */
+size_t body_size(uint8_t kind);
+
+/* The fraction in the body of a Number: sign and size of the whole number above
+ * the line, and the divisor. */
+struct fraction {
+    bool is_negative;
+    uint64_t size;
+    uint16_t divisor;
+};
+struct fraction fraction_of(const uint8_t *body);
+
 /* Counts a request with the answer and output of the judge. */
 void count_classes(const struct request *request, uint64_t answer, const uint8_t *out);
 
