@@ -1,6 +1,7 @@
 /* Stands in for the archive with a fault in its report, which the replay has to
  * see: FAULT in the environment says which, 0 for none. */
 #include "calls.h"
+#include "classes.h"
 #include "decoder.h"
 #include "draft.h"
 #include "rakhubole.h"
@@ -18,6 +19,8 @@ enum fault {
     INPUT_CHANGED,
     REFUSED_BUT_WRITTEN,
     TOO_FEW_AS_MISSING,
+    FRACTION_REDUCED,
+    SIGN_LOST,
     /* of a report on ISO 9141-2 */
     FIRST_BYTE_BEFORE_SUM,
     WRITTEN_BEHIND_ROWS
@@ -44,6 +47,38 @@ set_byte_of(const uint8_t *run, size_t length, ptrdiff_t place)
         *(volatile uint8_t *)((uintptr_t)run + (uintptr_t)place) ^= 0xFF;
 }
 
+/* The largest number that divides both. */
+static uint64_t common_divisor(uint64_t one, uint64_t other)
+{
+    return other ? common_divisor(other, one % other) : one;
+}
+
+static void put_number(uint8_t *bytes, uint8_t *end, uint64_t number)
+{
+    for (; end > bytes; number >>= 8)
+        *--end = (uint8_t)number;
+}
+
+/* Gives every Number its fraction in lowest terms, or a whole number without
+ * sign. */
+static void spoil_fractions(enum fault fault, uint8_t *rows, size_t length)
+{
+    for (size_t at = 0; at < length; at += 1 + body_size(rows[at])) {
+        if (rows[at] != RAKHUBOLE_ROW_NUMBER)
+            continue;
+        uint8_t *body = rows + at + 1, *divisor = body + RAKHUBOLE_NUMBER_DIVISOR;
+        struct fraction fraction = fraction_of(body);
+        uint64_t common = 1;
+        if (fault == FRACTION_REDUCED)
+            common = common_divisor(fraction.size, fraction.divisor);
+        else
+            fraction.is_negative = false;
+        uint64_t size = fraction.size / common;
+        put_number(body + RAKHUBOLE_NUMBER_ABOVE, divisor, fraction.is_negative ? 0 - size : size);
+        put_number(divisor, body + RAKHUBOLE_NUMBER_BODY, fraction.divisor / common);
+    }
+}
+
 static uint64_t faulty_report(const uint8_t *supplement, size_t supplement_length,
                               const uint8_t *first, size_t first_length, const uint8_t *response,
                               size_t response_length, uint8_t *out, size_t out_length)
@@ -62,6 +97,10 @@ static uint64_t faulty_report(const uint8_t *supplement, size_t supplement_lengt
     case REFUSED_BUT_WRITTEN: set_byte_of(out, !accepted && out_length, 0); break;
     case TOO_FEW_AS_MISSING:
         return answer == RAKHUBOLE_RESPONSE_TOO_FEW ? RAKHUBOLE_RESPONSE_MISSING : answer;
+    case FRACTION_REDUCED:
+    case SIGN_LOST:
+        spoil_fractions(fault(), out, accepted ? RAKHUBOLE_ROWS_LENGTH(answer) : 0);
+        break;
     default: break;
     }
     return answer;
