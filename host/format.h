@@ -1,6 +1,6 @@
-/* The numbers that document 01 fixes for frames, records and rows, for all C
- * and Python code here. It has enums of plain numbers alone, since
- * tools/c_names.py reads them too. */
+/* The numbers that document 01 fixes for frames and records, for all C and
+ * Python code here; those of rows stand in include/rakhubole.h. It has enums of
+ * plain numbers alone, since tools/c_names.py reads them too. */
 #ifndef FORMAT_H
 #define FORMAT_H
 

@@ -71,14 +71,15 @@ static const struct help helps[] = {
      "            \"layout_sought\" (first byte, target, selector present, selector)\n"
      "            and the rows: \"items\", \"remainder\", \"answer\" and \"verdict\". A row\n"
      "            has its \"kind\" and \"word\" and, as \"row\", its bytes. A Number has\n"
-     "            \"value\", the shortest decimal, and \"double\", its 64 bits; other\n"
-     "            rows have \"code\" or \"number\", and what is known of it in \"text\" or\n"
-     "            \"reason\". A State for whose code document 003 prints none has\n"
-     "            \"no_state\" true and, as \"called\", what it calls the code, null if\n"
-     "            it has no row for it. An item has \"prn\", \"table\", \"name\", \"slot\"\n"
-     "            and \"unit\", null where there is none. A frame that the adapter\n"
-     "            marks has the refusal null. What is passed over is said on the\n"
-     "            error output.\n"},
+     "            \"value\", the shortest decimal, \"double\", its 64 bits, and the\n"
+     "            exact fraction in two whole numbers, \"above\" the line and\n"
+     "            \"divisor\"; other rows have \"code\" or \"number\", and what is known of\n"
+     "            it in \"text\" or \"reason\". A State for whose code document 003\n"
+     "            prints none has \"no_state\" true and, as \"called\", what it calls the\n"
+     "            code, null if it has no row for it. An item has \"prn\", \"table\",\n"
+     "            \"name\", \"slot\" and \"unit\", null where there is none. A frame that\n"
+     "            the adapter marks has the refusal null. What is passed over is said\n"
+     "            on the error output.\n"},
     {"check", "SUPPLEMENT",
      "test a supplement and say what it holds",
      "Says whether the library accepts the file, and how many bytes, SLOTs by form,\n"

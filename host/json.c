@@ -1,5 +1,6 @@
 /* Reports as JSON, one object a line. Nothing of a row is lost: each has its
- * bytes, and a Number its double as the shortest decimal and as bits. */
+ * bytes, and a Number its double, as the shortest decimal and as bits, and its
+ * fraction. */
 #include "output.h"
 
 #include "message.h"
@@ -61,11 +62,13 @@ static void put_label(const struct label *label)
     put_text("unit", label->unit);
 }
 
-static void put_number(uint64_t bits)
+static void put_number(const struct number *number)
 {
     char text[VALUE_SIZE];
-    bool is_number = number_text(double_of(bits), text);
-    printf(",\"value\":%s,\"double\":\"%016" PRIX64 "\"", is_number ? text : "null", bits);
+    bool is_number = number_text(double_of(number->bits), text);
+    printf(",\"value\":%s,\"double\":\"%016" PRIX64 "\"", is_number ? text : "null",
+           number->bits);
+    printf(",\"above\":%" PRId64 ",\"divisor\":%" PRIu16, number->above, number->divisor);
 }
 
 /* The items of a Bits line with what document 003 prints for them. */
@@ -90,8 +93,8 @@ static void put_bit_names(const struct row *row, const struct label *label)
 /* The text of a State; where document 003 prints no state, what it calls the code. */
 static void put_state(const struct row *row, const struct label *label)
 {
-    const char *text = label ? state_text(label->slot, (uint32_t)row->body) : NULL;
-    const struct sae_gap *gap = label ? state_gap(label->slot, (uint32_t)row->body) : NULL;
+    const char *text = label ? state_text(label->slot, row->body) : NULL;
+    const struct sae_gap *gap = label ? state_gap(label->slot, row->body) : NULL;
     put_text("text", text);
     if (gap) {
         fputs(",\"no_state\":true", stdout);
@@ -134,7 +137,7 @@ static void put_row(const struct row *row, const struct label *label)
     put_text("word", row_word(row->kind));
     put_label(label);
     if (row->kind == RAKHUBOLE_ROW_NUMBER)
-        put_number(row->body);
+        put_number(&row->number);
     else if (row->kind >= RAKHUBOLE_ROW_STATE && row->kind <= RAKHUBOLE_ROW_INVALID)
         put_code(row, label);
     else if (row->kind != RAKHUBOLE_ROW_SHORT)

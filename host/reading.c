@@ -17,16 +17,26 @@ static size_t body_size(uint8_t kind)
     }
 }
 
+static struct number take_number(const uint8_t *body)
+{
+    return (struct number){number64(body + RAKHUBOLE_NUMBER_DOUBLE),
+                           signed64(body + RAKHUBOLE_NUMBER_ABOVE),
+                           number16(body + RAKHUBOLE_NUMBER_DIVISOR)};
+}
+
 /* Takes the row at the start of the bytes apart. */
 static bool take_row(struct row *row, const uint8_t *bytes, size_t rest)
 {
     if (rest == 0 || bytes[0] < RAKHUBOLE_ROW_NUMBER || bytes[0] > RAKHUBOLE_ROW_VERDICT)
         return false;
-    *row = (struct row){bytes[0], 0, bytes, 1 + body_size(bytes[0])};
+    *row = (struct row){.kind = bytes[0], .bytes = bytes, .length = 1 + body_size(bytes[0])};
     if (row->length > rest)
         return false;
-    for (size_t i = 1; i < row->length; i++)
-        row->body = row->body << 8 | bytes[i];
+    if (row->kind == RAKHUBOLE_ROW_NUMBER)
+        row->number = take_number(bytes + 1);
+    else
+        for (size_t i = 1; i < row->length; i++)
+            row->body = row->body << 8 | bytes[i];
     return true;
 }
 
@@ -34,10 +44,10 @@ static bool take_row(struct row *row, const uint8_t *bytes, size_t rest)
 static bool take_rows(struct reading *reading, size_t length)
 {
     enum { LAST_ROWS = 3 };
-    struct row rows[LAYOUT_PRNS + LAST_ROWS];
+    struct row rows[RAKHUBOLE_ITEMS_MOST + LAST_ROWS];
     size_t count = 0;
     for (size_t place = 0; place < length; place += rows[count++].length)
-        if (count == LAYOUT_PRNS + LAST_ROWS ||
+        if (count == RAKHUBOLE_ITEMS_MOST + LAST_ROWS ||
             !take_row(&rows[count], reading->rows + place, length - place))
             return false;
     if (count < LAST_ROWS)

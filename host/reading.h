@@ -5,10 +5,18 @@
 #include "bus.h"
 #include "names.h"
 
-/* A row: its kind, its body as a number, and its bytes. */
+/* A Number's parts: the bits of the double, and the fraction that gives it. */
+struct number {
+    uint64_t bits;
+    int64_t above;
+    uint16_t divisor;
+};
+
+/* A row: its kind, its body and its bytes. */
 struct row {
     uint8_t kind;
-    uint64_t body;
+    struct number number; /* the body of a Number */
+    uint32_t body;        /* that of any other row, as a number */
     const uint8_t *bytes;
     size_t length;
 };
@@ -16,11 +24,11 @@ struct row {
 struct reading {
     uint8_t rows[RAKHUBOLE_ROWS_MOST];
     size_t count;
-    struct row items[LAYOUT_PRNS];
+    struct row items[RAKHUBOLE_ITEMS_MOST];
     struct row remainder, response, verdict;
     struct layout layout;
     bool is_named; /* each item has a label */
-    struct label labels[LAYOUT_PRNS];
+    struct label labels[RAKHUBOLE_ITEMS_MOST];
     size_t response_length; /* without its check byte */
 };
 

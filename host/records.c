@@ -64,6 +64,17 @@ int32_t signed32(const uint8_t *bytes)
     return pattern <= INT32_MAX ? (int32_t)pattern : -(int32_t)(UINT32_MAX - pattern) - 1;
 }
 
+uint64_t number64(const uint8_t *bytes)
+{
+    return (uint64_t)number32(bytes) << 32 | number32(bytes + 4);
+}
+
+int64_t signed64(const uint8_t *bytes)
+{
+    uint64_t pattern = number64(bytes);
+    return pattern <= INT64_MAX ? (int64_t)pattern : -(int64_t)(UINT64_MAX - pattern) - 1;
+}
+
 struct slot_key slot_key_of(const struct record *record)
 {
     const uint8_t *at = record->bytes + (record->bytes[0] == RECORD_PRN ? PRN_FORM : SLOT_FORM);

@@ -41,10 +41,12 @@ bool record_next(const struct supplement *supplement, struct record *record);
 bool record_find(const struct supplement *supplement, const uint8_t *start, size_t length,
                  struct record *record);
 
-/* Numbers with the most significant byte first. */
+/* Numbers with the most significant byte first, signed ones in two's complement. */
 uint16_t number16(const uint8_t *bytes);
 uint32_t number32(const uint8_t *bytes);
 int32_t signed32(const uint8_t *bytes);
+uint64_t number64(const uint8_t *bytes);
+int64_t signed64(const uint8_t *bytes);
 
 /* The SLOT that a SLOT or PRN record names. */
 struct slot_key slot_key_of(const struct record *record);

@@ -45,8 +45,8 @@ static const char *name_of(const struct label *label, char made[MADE_NAME_SIZE])
 /* A code with the text of its state, or with word that document 003 has none. */
 static void put_state(const struct row *row, const struct label *label, const char *code)
 {
-    const char *text = label ? state_text(label->slot, (uint32_t)row->body) : NULL;
-    const struct sae_gap *gap = label ? state_gap(label->slot, (uint32_t)row->body) : NULL;
+    const char *text = label ? state_text(label->slot, row->body) : NULL;
+    const struct sae_gap *gap = label ? state_gap(label->slot, row->body) : NULL;
     printf("state %sh%s%s", code, text ? ": " : "", text ? text : "");
     if (gap)
         fputs(": document 003 prints no state for this code", stdout);
@@ -62,7 +62,7 @@ static void put_item(const struct row *row, const struct label *label)
     reason_text(row, label, reason);
     switch (row->kind) {
     case RAKHUBOLE_ROW_NUMBER:
-        number_text(double_of(row->body), text);
+        number_text(double_of(row->number.bits), text);
         fputs(text, stdout);
         break;
     case RAKHUBOLE_ROW_STATE:

@@ -6,7 +6,7 @@
 
 enum { VALUE_SIZE = 64, REASON_SIZE = 96 };
 
-/* The double whose bits a Number carries. */
+/* The double of these bits. */
 double double_of(uint64_t bits);
 
 /* The shortest decimal that reads back as the same double; false, and its bits,

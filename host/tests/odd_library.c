@@ -54,11 +54,11 @@ uint64_t rakhubole_supplement_check(const uint8_t *supplement, size_t supplement
 
 struct odd {
     size_t length, claimed;
-    uint8_t rows[40];
+    uint8_t rows[RAKHUBOLE_ROWS_MOST];
 };
 
 static const struct odd odds[] = {
-    {0, 200, {0}},                                            /* 0: longer than was lent */
+    {0, RAKHUBOLE_ROWS_MOST + 1, {0}},                        /* 0: longer than was lent */
     {7, 7, {0, LEFT, 0, ANSWERED, 0, VERDICT, CLEAR}},        /* 1: no such kind of row */
     {4, 4, {LEFT, 0, NUMBER, 0}},                             /* 2: a row that is cut */
     {6, 6, {LEFT, 0, ANSWERED, 0, LEFT, 0}},                  /* 3: no verdict */
@@ -67,7 +67,7 @@ static const struct odd odds[] = {
               LEFT, 0, ANSWERED, 0, VERDICT, CLEAR}},         /* 4: too many rows */
     {4, 4, {ANSWERED, 0, VERDICT, CLEAR}},                    /* 5: too few rows */
     {0, 0, {0}},                                              /* 6: no rows */
-    {15, 15, {NUMBER, 0x7F, 0xF8, 0, 0, 0, 0, 0, 0, LEFT, 0,
+    {25, 25, {NUMBER, 0x7F, 0xF8, 0, 0, 0, 0, 0, 0, 0, 0, 0, 0, 0, 0, 0, 0, 0, 1, LEFT, 0,
               ANSWERED, 0, VERDICT, CLEAR}},                  /* 7: no number, no PRN */
     {6, 6, {LEFT, 0, ANSWERED, 0, VERDICT, 9}},               /* 8: no such verdict */
     {8, 8, {UNKNOWN, 99, LEFT, 0, ANSWERED, 7, VERDICT,

@@ -162,9 +162,14 @@ def test_samples(tool, samples):
             yield f"of the {what}, the samples do not show {sorted(wanted - found)}"
 
 
+def number_body(row):
+    """A Number's body of its three parts."""
+    return struct.pack(">dqH", row["value"], row["above"], row["divisor"])
+
+
 def test_json(tool, samples):
-    """Each object names its bus, and each row's fields say what its bytes say, the double to the
-    last bit."""
+    """Each object names its bus, and each row's fields say what its bytes say: of a Number the
+    double to the last bit, the whole number above the line and the divisor."""
     for bus, log in LOGS.items():
         reports = objects(tool, samples / "van.sup", samples / log, bus)
         if {report.get("bus") for report in reports} != {bus}:
@@ -174,9 +179,9 @@ def test_json(tool, samples):
             is_number = row["kind"] == NAMES.RAKHUBOLE_ROW_NUMBER
             if row["row"][:2] != f"{row['kind']:02X}":
                 yield f"the kind is lost: {row}"
-            if is_number and struct.pack(">d", row["value"]) != body:
-                yield f"the double is changed: {row}"
-            if is_number and row["double"] != body.hex().upper():
+            if is_number and number_body(row) != body:
+                yield f"a part of the Number is changed: {row}"
+            if is_number and bytes.fromhex(row["double"]) != struct.pack(">d", row["value"]):
                 yield f"the bits of the double are changed: {row}"
             if not is_number and row["kind"] != NAMES.RAKHUBOLE_ROW_SHORT:
                 if row.get("code", row.get("number")) != int.from_bytes(body, "big"):
