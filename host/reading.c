@@ -17,11 +17,15 @@ static size_t body_size(uint8_t kind)
     }
 }
 
-static struct number take_number(const uint8_t *body)
+/* Takes a Number's body apart; false if its fraction is outside its limits. A
+ * larger whole number could be rounded by those who read our JSON. */
+static bool take_number(struct number *number, const uint8_t *body)
 {
-    return (struct number){number64(body + RAKHUBOLE_NUMBER_DOUBLE),
-                           signed64(body + RAKHUBOLE_NUMBER_ABOVE),
-                           number16(body + RAKHUBOLE_NUMBER_DIVISOR)};
+    const int64_t most = INT64_C(1) << 49;
+    *number = (struct number){number64(body + RAKHUBOLE_NUMBER_DOUBLE),
+                              signed64(body + RAKHUBOLE_NUMBER_ABOVE),
+                              number16(body + RAKHUBOLE_NUMBER_DIVISOR)};
+    return number->above >= -most && number->above <= most && number->divisor != 0;
 }
 
 /* Takes the row at the start of the bytes apart. */
@@ -33,10 +37,9 @@ static bool take_row(struct row *row, const uint8_t *bytes, size_t rest)
     if (row->length > rest)
         return false;
     if (row->kind == RAKHUBOLE_ROW_NUMBER)
-        row->number = take_number(bytes + 1);
-    else
-        for (size_t i = 1; i < row->length; i++)
-            row->body = row->body << 8 | bytes[i];
+        return take_number(&row->number, bytes + 1);
+    for (size_t i = 1; i < row->length; i++)
+        row->body = row->body << 8 | bytes[i];
     return true;
 }
 

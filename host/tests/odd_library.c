@@ -57,23 +57,38 @@ struct odd {
     uint8_t rows[RAKHUBOLE_ROWS_MOST];
 };
 
+/* The last rows of a report with nothing wrong. */
+#define CLEAR_ROWS LEFT, 0, ANSWERED, 0, VERDICT, CLEAR
+
 static const struct odd odds[] = {
     {0, RAKHUBOLE_ROWS_MOST + 1, {0}},                        /* 0: longer than was lent */
-    {7, 7, {0, LEFT, 0, ANSWERED, 0, VERDICT, CLEAR}},        /* 1: no such kind of row */
+    {7, 7, {0, CLEAR_ROWS}},                                  /* 1: no such kind of row */
     {4, 4, {LEFT, 0, NUMBER, 0}},                             /* 2: a row that is cut */
     {6, 6, {LEFT, 0, ANSWERED, 0, LEFT, 0}},                  /* 3: no verdict */
     {26, 26, {SHORT, SHORT, SHORT, SHORT, SHORT, SHORT, SHORT, SHORT, SHORT, SHORT,
               SHORT, SHORT, SHORT, SHORT, SHORT, SHORT, SHORT, SHORT, SHORT, SHORT,
-              LEFT, 0, ANSWERED, 0, VERDICT, CLEAR}},         /* 4: too many rows */
+              CLEAR_ROWS}},                                   /* 4: too many rows */
     {4, 4, {ANSWERED, 0, VERDICT, CLEAR}},                    /* 5: too few rows */
     {0, 0, {0}},                                              /* 6: no rows */
-    {25, 25, {NUMBER, 0x7F, 0xF8, 0, 0, 0, 0, 0, 0, 0, 0, 0, 0, 0, 0, 0, 0, 0, 1, LEFT, 0,
-              ANSWERED, 0, VERDICT, CLEAR}},                  /* 7: no number, no PRN */
+    {25, 25, {NUMBER, 0x7F, 0xF8, 0, 0, 0, 0, 0, 0, 0, 0, 0, 0, 0, 0, 0, 0, 0, 1,
+              CLEAR_ROWS}},                                   /* 7: no number, no PRN */
     {6, 6, {LEFT, 0, ANSWERED, 0, VERDICT, 9}},               /* 8: no such verdict */
     {8, 8, {UNKNOWN, 99, LEFT, 0, ANSWERED, 7, VERDICT,
             RAKHUBOLE_VERDICT_UNKNOWN}},                      /* 9: no such Unknown, no such kind */
     {16, 16, {INVALID, 0, 0, 0, 1, STATE, 0, 0, 0, 2, LEFT, 0, ANSWERED, 0, VERDICT,
-              RAKHUBOLE_FLAGGED}}};                           /* 10: lines without PRN */
+              RAKHUBOLE_FLAGGED}},                            /* 10: lines without PRN */
+    {25, 25, {NUMBER, 0, 0, 0, 0, 0, 0, 0, 0, 0, 0, 0, 0, 0, 0, 0, 1, 0, 0,
+              CLEAR_ROWS}},                                   /* 11: the divisor is 0 */
+    {25, 25, {NUMBER, 0, 0, 0, 0, 0, 0, 0, 0, 0, 2, 0, 0, 0, 0, 0, 1, 0, 1,
+              CLEAR_ROWS}},                                   /* 12: over 2 to the 49th */
+    {25, 25, {NUMBER, 0, 0, 0, 0, 0, 0, 0, 0, 0xFF, 0xFD, 0xFF, 0xFF, 0xFF, 0xFF, 0xFF, 0xFF,
+              0, 1, CLEAR_ROWS}},                             /* 13: the same, negative */
+    {25, 25, {NUMBER, 0, 0, 0, 0, 0, 0, 0, 0, 0x80, 0, 0, 0, 0, 0, 0, 0, 0, 1,
+              CLEAR_ROWS}},                                   /* 14: the lowest in 8 bytes */
+    {15, 15, {NUMBER, 0, 0, 0, 0, 0, 0, 0, 0, CLEAR_ROWS}},   /* 15: a Number without fraction */
+    {44, 44, {NUMBER, 0x43, 0, 0, 0, 0, 0, 0, 0, 0, 2, 0, 0, 0, 0, 0, 0, 0, 1,
+              NUMBER, 0xC2, 0, 0, 0x10, 0, 0x10, 0, 0x10, 0xFF, 0xFE, 0, 0, 0, 0, 0, 0,
+              0xFF, 0xFF, CLEAR_ROWS}}};                      /* 16: both limits */
 
 uint64_t rakhubole_j1850_report(const uint8_t *supplement, size_t supplement_length,
                                 const uint8_t *first, size_t first_length,
