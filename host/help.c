@@ -4,12 +4,14 @@
 
 #include <string.h>
 
+/* What options do has a string of its own: C99 compilers need not take longer
+ * ones than 4,095 characters. */
 struct help {
-    const char *command, *operands, *summary, *text;
+    const char *command, *operands, *summary, *text, *options;
 };
 
 static const struct help helps[] = {
-    {"report", "[--bus BUS] [--json] [--strict] SUPPLEMENT LOG",
+    {"report", "[--bus BUS] [--exact] [--json] [--strict] SUPPLEMENT LOG",
      "read a log of frames and show what each one says",
      "Shows for each frame of LOG a table of PRN, name and value, what is left over,\n"
      "the response, and the verdict:\n"
@@ -59,11 +61,16 @@ static const struct help helps[] = {
      "  48 6B 10 41 65 <DATA ERROR\n"
      "\n"
      "is shown and not decoded. Any other line is a fault.\n"
-     "\n"
+     "\n",
      "  --bus     the bus of the log: j1850, SAE J1850, which is meant if none is\n"
      "            said, or iso9141, ISO 9141-2. Layouts serve both. If more than\n"
      "            half of the frames have a wrong check byte here and would be\n"
      "            accepted on the other bus, a message at the end says so.\n"
+     "  --exact   the table shows each number as an exact fraction, where a decimal\n"
+     "            may be rounded: 101/1 for 101, -299/10 for -29.9. Above the line\n"
+     "            stands raw x multiplier + offset, below it the divisor of the SLOT.\n"
+     "            The fraction is left as it is: 300/3, not 100/1. It changes the\n"
+     "            table alone: JSON has the fraction in any case.\n"
      "  --strict  exit status 1 unless every frame is Clear and none is damaged\n"
      "  --json    one object a line for each frame, and nothing of it lost: \"line\",\n"
      "            \"bus\" (the word of --bus), \"first\" and \"response\" (bytes),\n"
@@ -85,7 +92,7 @@ static const struct help helps[] = {
      "Says whether the library accepts the file, and how many bytes, SLOTs by form,\n"
      "PRNs and layouts it has; or the refusal in words with its number, and number,\n"
      "place, kind and bytes of the first record with a fault, with exit status 1.\n"
-     "The empty file is accepted: the SAE tables alone.\n"},
+     "The empty file is accepted: the SAE tables alone.\n", ""},
     {"compile", "TEXT SUPPLEMENT",
      "make a supplement from its text",
      "Reads TEXT, a record a line, and writes SUPPLEMENT, if the library accepts it.\n"
@@ -107,12 +114,12 @@ static const struct help helps[] = {
      "layout  the header in hexadecimal: with bit H = 0 the first byte, its priority\n"
      "        bits zero, and the target; with H = 1 the whole first byte alone. Then\n"
      "        the first data byte, if there are data, and up to sixteen PRNs of the\n"
-     "        items behind it.\n"},
+     "        items behind it.\n", ""},
     {"show", "SUPPLEMENT",
      "show a supplement as text",
      "Writes the supplement as text that compile turns into the same bytes, with the\n"
      "names of PRNs as comments; see 'rakhubole help compile'. What the library\n"
-     "refuses is not shown: the message says why, and the exit status is 1.\n"},
+     "refuses is not shown: the message says why, and the exit status is 1.\n", ""},
     {"frame", "[--bus BUS] BYTE.. [/ BYTE..]",
      "show the parts of a frame",
      "Shows header, data, check byte and response of a frame, or why the library\n"
@@ -121,7 +128,7 @@ static const struct help helps[] = {
      "\n"
      "  rakhubole frame 48 6B 10 41 65 80 29\n"
      "  rakhubole frame 631AF139 / 1234AC\n"
-     "  rakhubole frame --bus iso9141 48 6B 10 41 65 80 E9\n"},
+     "  rakhubole frame --bus iso9141 48 6B 10 41 65 80 E9\n", ""},
     {"send", "[--bus BUS] HEADER DATA [RESPONSE]",
      "make the bytes of a frame",
      "Writes the bytes to send, check bytes included, the response behind a slash,\n"
@@ -131,7 +138,7 @@ static const struct help helps[] = {
      "\n"
      "  rakhubole send 486B10 416580\n"
      "  rakhubole send \"63 1A F1\" - 1234\n"
-     "  rakhubole send --bus iso9141 686AF1 010C\n"}};
+     "  rakhubole send --bus iso9141 686AF1 010C\n", ""}};
 
 enum { HELPS = sizeof helps / sizeof *helps };
 
@@ -168,6 +175,6 @@ bool put_help(const char *command)
 {
     const struct help *help = find_help(command);
     if (help)
-        printf("rakhubole %s %s\n\n%s", command, help->operands, help->text);
+        printf("rakhubole %s %s\n\n%s%s", command, help->operands, help->text, help->options);
     return help != NULL;
 }

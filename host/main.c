@@ -45,8 +45,8 @@ static int run_command(const struct command *command, int count, char **values)
         return complain_of_use(command, misuse.fault, misuse.what);
     if (arguments.help)
         return put_help(command->name) ? flush_output() : STATUS_USAGE;
-    if (!command->has_options && (arguments.json || arguments.strict))
-        return complain_of_use(command, "only report takes --json and --strict", "");
+    if (!command->has_options && (arguments.exact || arguments.json || arguments.strict))
+        return complain_of_use(command, "only report takes --exact, --json and --strict", "");
     if (!command->has_bus && arguments.bus)
         return complain_of_use(command, "only report, frame and send take --bus", "");
     if (arguments.count < command->least)

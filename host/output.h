@@ -1,4 +1,5 @@
-/* How reports are shown: as tables or as JSON. */
+/* How reports are shown: as tables, their Numbers decimals or fractions, or as
+ * JSON. */
 #ifndef OUTPUT_H
 #define OUTPUT_H
 
@@ -20,6 +21,7 @@ struct output {
 };
 
 extern const struct output table_output;
+extern const struct output exact_output;
 extern const struct output json_output;
 
 #endif

@@ -152,13 +152,20 @@ static int finish(const struct session *session, bool is_strict)
     return is_strict && faults > 0 ? STATUS_REFUSED : STATUS_DONE;
 }
 
+/* JSON has the fractions too, so it is the same with --exact. */
+static const struct output *output_of(const struct arguments *arguments)
+{
+    if (arguments->json)
+        return &json_output;
+    return arguments->exact ? &exact_output : &table_output;
+}
+
 int command_report(const struct arguments *arguments)
 {
     const char *path = arguments->operands[1];
     struct supplement supplement;
     struct session session = {.bus = arguments->bus, .supplement = &supplement,
-                              .output = arguments->json ? &json_output : &table_output,
-                              .path = shown_path(path)};
+                              .output = output_of(arguments), .path = shown_path(path)};
     if (strcmp(arguments->operands[0], "-") == 0 && strcmp(path, "-") == 0) {
         complain("supplement and log cannot both come from the standard input");
         return STATUS_USAGE;

@@ -6,6 +6,7 @@
 #include "values.h"
 #include "words.h"
 
+#include <inttypes.h>
 #include <string.h>
 
 /* The column of PRNs and of the words below them. */
@@ -54,16 +55,26 @@ static void put_state(const struct row *row, const struct label *label, const ch
         printf(" (called %s)", gap->called);
 }
 
+/* A Number as its fraction or as the shortest decimal. */
+static void put_number(const struct number *number, bool is_exact)
+{
+    char text[VALUE_SIZE];
+    if (is_exact)
+        snprintf(text, sizeof text, "%" PRId64 "/%" PRIu16, number->above, number->divisor);
+    else
+        number_text(double_of(number->bits), text);
+    fputs(text, stdout);
+}
+
 /* What an item line says, without its unit. */
-static void put_item(const struct row *row, const struct label *label)
+static void put_item(const struct row *row, const struct label *label, bool is_exact)
 {
     char code[VALUE_SIZE], text[VALUE_SIZE], reason[REASON_SIZE];
     code_text(row->body, label, code);
     reason_text(row, label, reason);
     switch (row->kind) {
     case RAKHUBOLE_ROW_NUMBER:
-        number_text(double_of(row->number.bits), text);
-        fputs(text, stdout);
+        put_number(&row->number, is_exact);
         break;
     case RAKHUBOLE_ROW_STATE:
         put_state(row, label, code);
@@ -119,7 +130,8 @@ static const struct label *label_at(const struct reading *reading, size_t i)
 }
 
 /* One item line: PRN, name, value and unit. */
-static void put_item_line(const struct row *row, const struct label *label, int widest)
+static void put_item_line(const struct row *row, const struct label *label, int widest,
+                          bool is_exact)
 {
     char prn[sizeof "FFFF"] = "?", made[MADE_NAME_SIZE];
     bool has_unit = row->kind == RAKHUBOLE_ROW_NUMBER || row->kind == RAKHUBOLE_ROW_TEXT;
@@ -127,7 +139,7 @@ static void put_item_line(const struct row *row, const struct label *label, int 
         snprintf(prn, sizeof prn, "%04X", label->prn);
     printf("  %-*s  %-*s  %s", FIRST_COLUMN, prn, widest, name_of(label, made),
            color_on(line_color(row)));
-    put_item(row, label);
+    put_item(row, label, is_exact);
     fputs(color_off(line_color(row)), stdout);
     if (has_unit && label && label->unit)
         printf(" %s", label->unit);
@@ -136,7 +148,7 @@ static void put_item_line(const struct row *row, const struct label *label, int 
         put_bit_names(row, label, FIRST_COLUMN + widest + 8);
 }
 
-static void put_items(const struct reading *reading)
+static void put_items(const struct reading *reading, bool is_exact)
 {
     char made[MADE_NAME_SIZE];
     size_t widest = 0;
@@ -147,7 +159,7 @@ static void put_items(const struct reading *reading)
     if (reading->count)
         printf("  %-*s  %-*s  value\n", FIRST_COLUMN, "PRN", (int)widest, "name");
     for (size_t i = 0; i < reading->count; i++)
-        put_item_line(&reading->items[i], label_at(reading, i), (int)widest);
+        put_item_line(&reading->items[i], label_at(reading, i), (int)widest, is_exact);
 }
 
 static void put_remainder(const struct reading *reading)
@@ -157,7 +169,7 @@ static void put_remainder(const struct reading *reading)
     layout_key_text(reading->layout.start, key);
     printf("  %-*s  %s", FIRST_COLUMN, "rest", color_on(line_color(row)));
     if (row->kind != RAKHUBOLE_ROW_LEFT)
-        put_item(row, NULL);
+        put_item(row, NULL, false);
     else if (row->body == 0)
         fputs("nothing left over", stdout);
     else
@@ -179,7 +191,7 @@ static void put_response(const struct entry *entry, const struct reading *readin
         printf("kind %u: %s", (unsigned)row->body,
                bus_response_words(entry->bus, (unsigned)row->body));
     else
-        put_item(row, NULL);
+        put_item(row, NULL, false);
     printf("%s\n", color_off(line_color(row)));
 }
 
@@ -193,16 +205,26 @@ static void put_entry(const struct entry *entry)
     putchar('\n');
 }
 
-static void table_reading(const struct entry *entry, const struct reading *reading)
+static void put_reading(const struct entry *entry, const struct reading *reading, bool is_exact)
 {
     unsigned verdict = (unsigned)reading->verdict.body;
     enum color color = verdict_color(verdict);
     put_entry(entry);
-    put_items(reading);
+    put_items(reading, is_exact);
     put_remainder(reading);
     put_response(entry, reading);
     printf("  %-*s  %s%s: %s%s\n\n", FIRST_COLUMN, "verdict", color_on(color),
            verdict_word(verdict), verdict_reason(verdict), color_off(color));
+}
+
+static void table_reading(const struct entry *entry, const struct reading *reading)
+{
+    put_reading(entry, reading, false);
+}
+
+static void exact_reading(const struct entry *entry, const struct reading *reading)
+{
+    put_reading(entry, reading, true);
 }
 
 static void table_refused(const struct entry *entry, unsigned refusal)
@@ -247,4 +269,6 @@ static void table_end(const struct tally *tally)
 }
 
 const struct output table_output = {table_reading, table_refused, table_damaged, table_passed,
+                                    table_end};
+const struct output exact_output = {exact_reading, table_refused, table_damaged, table_passed,
                                     table_end};
