@@ -4,12 +4,15 @@
     properties.py TOOL SAMPLES
 
 Random supplements come back from their text byte for byte; the samples show every kind of line;
-JSON loses nothing, and its numbers are as short as can be; each code of a SLOT with codes between
-its states is a printed state, marked as none, or Unknown; random frames have the same report on
-both buses; a log under the wrong bus is said to be one exactly if more than half of it is; a stream
-is shown as it comes, with progress where somebody looks.
+JSON loses nothing, and its numbers are as short as can be; fractions are those of their SLOTs, give
+the doubles, and stand in the table under --exact; each code of a SLOT with codes between its states
+is a printed state, marked as none, or Unknown; random frames have the same report on both buses; a
+log under the wrong bus is said to be one exactly if more than half of it is; a stream is shown as
+it comes, with progress where somebody looks.
 """
+import itertools
 import json
+import math
 import os
 import pathlib
 import pty
@@ -21,6 +24,7 @@ import subprocess
 import sys
 import tempfile
 import time
+from fractions import Fraction
 
 sys.path.insert(0, str(pathlib.Path(__file__).resolve().parents[2] / "tools"))
 from c_names import c_names
@@ -28,6 +32,7 @@ from c_names import c_names
 FORMAT, NAMES = c_names("host/format.h"), c_names("include/rakhubole.h")
 SUPPLEMENTS = 300
 NUMBERS = 100
+FRACTIONS = 120
 FRAMES = 60
 SEED = 1
 SECONDS = 10
@@ -38,6 +43,7 @@ ISO_REFUSALS = {NAMES.RAKHUBOLE_OVER_TWELVE_BYTES, NAMES.RAKHUBOLE_FIRST_RUN_SHO
                 NAMES.RAKHUBOLE_CHECK_BYTE_WRONG, NAMES.RAKHUBOLE_FIRST_BYTE_WRONG}
 UNKNOWNS = set(range(NAMES.RAKHUBOLE_UNKNOWN_PRN, NAMES.RAKHUBOLE_UNKNOWN_LAYOUT + 1))
 ROW_KINDS = set(range(NAMES.RAKHUBOLE_ROW_NUMBER, NAMES.RAKHUBOLE_ROW_VERDICT + 1))
+FRACTION_KINDS = {"negative", "not whole", "reducible"}
 VERDICTS = {NAMES.RAKHUBOLE_CLEAR, NAMES.RAKHUBOLE_FLAGGED, NAMES.RAKHUBOLE_VERDICT_UNKNOWN}
 KEY_SIZES = {FORMAT.RECORD_SLOT: FORMAT.SLOT_KEY_SIZE, FORMAT.RECORD_PRN: FORMAT.PRN_KEY_SIZE,
              FORMAT.RECORD_LAYOUT: FORMAT.LAYOUT_KEY_SIZE}
@@ -143,9 +149,21 @@ def all_rows(reports):
     return [row for report in reports if report["refusal"] == 0 for row in rows_of(report)]
 
 
+def numbers_in(reports):
+    return [row for row in all_rows(reports) if row["kind"] == NAMES.RAKHUBOLE_ROW_NUMBER]
+
+
+def fraction_kinds(above, divisor):
+    """What is worth a sample in a fraction."""
+    return {word for word, holds in (("negative", above < 0 and divisor > 1),
+                                     ("not whole", above % divisor != 0),
+                                     ("reducible", above != 0 and math.gcd(above, divisor) > 1))
+            if holds}
+
+
 def test_samples(tool, samples):
-    """The samples show every refusal of the reader, row kind, Unknown number and verdict; that of
-    ISO 9141-2 shows its refusals and the verdicts."""
+    """The samples show every refusal of the reader, row kind, Unknown number and verdict, and
+    fractions of each kind; that of ISO 9141-2 shows its refusals and the verdicts."""
     reports, iso = (objects(tool, samples / "van.sup", samples / log, bus)
                     for bus, log in LOGS.items())
     rows = all_rows(reports)
@@ -156,6 +174,8 @@ def test_samples(tool, samples):
              numbers_of(all_rows(iso), NAMES.RAKHUBOLE_ROW_VERDICT)),
             ("kinds of rows", ROW_KINDS, {r["kind"] for r in rows}),
             ("Unknown numbers", UNKNOWNS, numbers_of(rows, NAMES.RAKHUBOLE_ROW_UNKNOWN)),
+            ("fractions", FRACTION_KINDS,
+             set().union(*(fraction_kinds(r["above"], r["divisor"]) for r in numbers_in(reports)))),
             ("response kinds", {0, 1, 2}, numbers_of(rows, NAMES.RAKHUBOLE_ROW_ANSWERED)),
             ("verdicts", VERDICTS, numbers_of(rows, NAMES.RAKHUBOLE_ROW_VERDICT))):
         if wanted != found:
@@ -214,6 +234,66 @@ def test_numbers(tool, _samples):
         wanted, = struct.unpack(">d", bytes.fromhex(row["double"]))
         if float(row["value"]) != wanted or digits(row["value"]) != digits(repr(wanted)):
             yield f"a Number is not the shortest decimal of its double {wanted!r}: {row}"
+
+
+def random_scale(chance, i):
+    """A SLOT of numbers, its PRN and layout as text, a raw number as data, and its fraction."""
+    form, width = chance.choice(("UNM", "SNM")), edge(chance, 1, FORMAT.WIDTH_SHOWN_MOST)
+    low = -(1 << width - 1) if form == "SNM" else 0
+    high = low + (1 << width) - 1
+    multiplier, divisor = edge(chance, 0, 65535), edge(chance, 1, 65535)
+    offset, raw = edge(chance, -(1 << 31), (1 << 31) - 1), edge(chance, low, high)
+    text = (f"slot {form}-{width:02}-{1000 + i} multiplier {multiplier} divisor {divisor} "
+            f"offset {offset} raw {low} to {high}\nprn F{i:03X} {form}-{width:02}-{1000 + i}\n"
+            f"layout header 08 6B selector {i:02X} prns F{i:03X}\n")
+    data = bytes((i,)) + number(raw % (1 << width) << -width % 8, (width + 7) // 8)
+    return text, data, (raw * multiplier + offset, divisor)
+
+
+def table(tool, supplement, log, *options):
+    return subprocess.run([tool, "report", *options, supplement, log], stdout=subprocess.PIPE,
+                          check=True).stdout.decode("ascii").splitlines()
+
+
+def fraction_faults(tool, supplement, log, bus="j1850"):
+    """Each Number's double is its fraction, divided once. --exact puts the fraction in the place of
+    the decimal and changes no other line."""
+    rows = numbers_in(objects(tool, supplement, log, bus, parse_float=str))
+    plain = table(tool, supplement, log, "--bus", bus)
+    exact = table(tool, supplement, log, "--bus", bus, "--exact")
+    changed = [lines for lines in zip(plain, exact) if lines[0] != lines[1]]
+    if len(plain) != len(exact) or len(changed) != len(rows):
+        yield f"--exact changes {len(changed)} lines for {len(rows)} Numbers of {log}"
+    for row, (line, exact_line) in zip(rows, changed):
+        quotient = float(Fraction(row["above"], row["divisor"]))
+        bits = struct.pack(">d", quotient)
+        if float(row["value"]) != quotient or bytes.fromhex(row["double"]) != bits:
+            yield f"the double is not {quotient!r}: {row}"
+        unit = f" {row['unit']}" if row["unit"] else ""
+        decimal, fraction = f"  {row['value']}{unit}", f"  {row['above']}/{row['divisor']}{unit}"
+        if not line.endswith(decimal) or exact_line != line.removesuffix(decimal) + fraction:
+            yield f"{line!r} is {exact_line!r} with --exact: {row}"
+
+
+def test_fractions(tool, samples):
+    """Fractions are those of the SLOTs, unreduced, and agree with the doubles and with --exact."""
+    chance = random.Random(SEED)
+    texts, datas, wanted = zip(*(random_scale(chance, i) for i in range(FRACTIONS)))
+    with tempfile.TemporaryDirectory() as name:
+        text, supplement, log = (pathlib.Path(name) / n for n in ("text", "supplement", "log"))
+        text.write_text("".join(texts), encoding="ascii")
+        subprocess.run([tool, "compile", text, supplement], stdout=subprocess.DEVNULL, check=True)
+        with open(log, "wb") as file:
+            for data in datas:
+                subprocess.run([tool, "send", "486B10", data.hex()], stdout=file, check=True)
+        reports = objects(tool, supplement, log)
+        yield from fraction_faults(tool, supplement, log)
+    found = [(row["above"], row["divisor"]) for row in numbers_in(reports)]
+    for data, fraction, other in itertools.zip_longest(datas, wanted, found):
+        if fraction != other:
+            yield f"the fraction of {data.hex()} is {other}, not {fraction}"
+    for bus, sample in LOGS.items():
+        yield from fraction_faults(tool, samples / "van.sup", samples / sample, bus)
 
 
 def state_of(row):
@@ -334,8 +414,8 @@ def test_progress(tool, samples):
             yield f"on a terminal stands {shown!r}, not {wanted!r}"
 
 
-TESTS = (test_round_trips, test_samples, test_json, test_numbers, test_states, test_buses,
-         test_wrong_bus, test_stream, test_progress)
+TESTS = (test_round_trips, test_samples, test_json, test_numbers, test_fractions, test_states,
+         test_buses, test_wrong_bus, test_stream, test_progress)
 
 
 def main():
@@ -343,9 +423,9 @@ def main():
     faults = [fault for test in TESTS for fault in test(tool, samples)]
     for fault in faults:
         print(f"tool-test: {fault}")
-    print(f"tool-test: {SUPPLEMENTS} random supplements, {2 * NUMBERS} Numbers, every code of "
-          f"{len(STATES)} SLOTs, {FRAMES} frames on both buses, every kind of line, JSON, the "
-          "wrong bus, a stream and progress: "
+    print(f"tool-test: {SUPPLEMENTS} random supplements, {2 * NUMBERS} Numbers, "
+          f"{FRACTIONS} fractions, every code of {len(STATES)} SLOTs, {FRAMES} frames on both "
+          "buses, every kind of line, JSON, the wrong bus, a stream and progress: "
           f"{len(faults)} faults")
     return 1 if faults else 0
 
