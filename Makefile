@@ -39,6 +39,7 @@ demo: $(TOOL) ## run the host tool on the samples
 	$(TOOL) check samples/van.sup
 	$(TOOL) show samples/van.sup
 	$(TOOL) report samples/van.sup samples/van.log
+	($(TOOL) send 486B10 416580; $(TOOL) send 486B10 4500961FC0) | $(TOOL) report --exact samples/van.sup -
 	$(TOOL) frame $$($(TOOL) send 631AF1 - 1234)
 	$(TOOL) report --bus iso9141 samples/van.sup samples/iso.log
 	$(TOOL) frame --bus iso9141 $$($(TOOL) send --bus iso9141 686AF1 010C)
