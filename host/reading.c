@@ -17,15 +17,17 @@ static size_t body_size(uint8_t kind)
     }
 }
 
-/* Takes a Number's body apart; false if its fraction is outside its limits. A
- * larger whole number could be rounded by those who read our JSON. */
+/* How large the whole number above the line can be. Much larger ones would not
+ * be exact for those who read JSON numbers as doubles. */
+static const int64_t ABOVE_MOST = INT64_C(1) << 49;
+
+/* Takes a Number's body apart; false if its fraction is outside its limits. */
 static bool take_number(struct number *number, const uint8_t *body)
 {
-    const int64_t most = INT64_C(1) << 49;
     *number = (struct number){number64(body + RAKHUBOLE_NUMBER_DOUBLE),
                               signed64(body + RAKHUBOLE_NUMBER_ABOVE),
                               number16(body + RAKHUBOLE_NUMBER_DIVISOR)};
-    return number->above >= -most && number->above <= most && number->divisor != 0;
+    return number->above >= -ABOVE_MOST && number->above <= ABOVE_MOST && number->divisor != 0;
 }
 
 /* Takes the row at the start of the bytes apart. */
