@@ -1,8 +1,8 @@
--- P1 to P13 of document 01, "Bench cases", in its order, each Number with its fraction: one table, read beside the paper; and one of the
--- refusals of ISO 9141-2.
+-- P1 to P13 of document 01, "Bench cases", in its order, each Number with its fraction: one table, read beside the paper; one of its whole
+-- report; and one of the refusals of ISO 9141-2.
 use Prim.Native.Nat.{ℕ}
 use mathlib.Core.Logic.{_⊎_, inl, inr}
-use mathlib.Core.List.{List, [], _∷_}
+use mathlib.Core.List.{List, [], _∷_, _++_}
 use mathlib.Core.Option.{Option, none, some}
 use lib.IntN.{ℤ, pos, negℤ}
 use lib.Ieee.{binary64, ofInt}
@@ -14,13 +14,15 @@ use Rattle.catalogue.specs.Sae.{saeSlot}
 use Rattle.report.specs.declared.line.Line.{Line}
 use Rattle.report.specs.declared.line.Line.the-variants.{Number, Invalid, Unknown}
 use Rattle.report.specs.Scaling.{formLine}
+use Rattle.report.specs.Answer.{Answer, refused, shown, j1850Answer}
 
 -- An item: its SLOT, its raw number and the line expected. A frame of J1850: its two runs and the refusal expected. A message of
--- ISO 9141-2: its run and the refusal expected.
+-- ISO 9141-2: its run and the refusal expected. A report: its supplement, its first run, how many bytes are lent, and the answer expected.
 pub data Case : Type 0 where
   item : Option SlotRow → ℕ → Line → Case
   frame : List ℕ → List ℕ → ℕ → Case
   message : List ℕ → ℕ → Case
+  report : List ℕ → List ℕ → ℕ → Answer (List ℕ) → Case
 
 -- The value that document 01 names, as a double, beside the fraction that gives it.
 abbrev pub number : ℤ → ℤ → ℕ → Line
@@ -53,6 +55,32 @@ benchCases =
     ∷ frame (0x48 ∷ 0x6B ∷ 0x10 ∷ 0x41 ∷ 1 ∷ 2 ∷ 3 ∷ 4 ∷ 5 ∷ 6 ∷ 7 ∷ 8 ∷ 9 ∷ []) [] 1
     ∷ []
 
+-- "Whole report. Supplement: layout 08h, 6Bh, 1, 41h, count 2, PRNs 1025h and 100Bh."
+abbrev pub wholeSupplement : List ℕ
+wholeSupplement =
+    3 ∷ 0x08 ∷ 0x6B ∷ 1 ∷ 0x41 ∷ 2 ∷ 0x10 ∷ 0x25 ∷ 0x10 ∷ 0x0B
+    ∷ 0 ∷ 0 ∷ 0 ∷ 0 ∷ 0 ∷ 0 ∷ 0 ∷ 0 ∷ 0 ∷ 0 ∷ 0 ∷ 0 ∷ 0 ∷ 0 ∷ 0 ∷ 0 ∷ 0 ∷ 0 ∷ 0 ∷ 0 ∷ 0 ∷ 0 ∷ 0 ∷ 0 ∷ 0 ∷ 0 ∷ 0 ∷ 0 ∷ []
+
+-- "Frame 48 6B 10 41 65 80 and its check byte, no response."
+abbrev pub wholeFrame : List ℕ
+wholeFrame = 0x48 ∷ 0x6B ∷ 0x10 ∷ 0x41 ∷ 0x65 ∷ 0x80 ∷ 0x29 ∷ []
+
+-- The two Numbers, 101 as 101/1 and 0 as 0/128: a kind, then "the double, the whole number (8, signed), the divisor (2)".
+abbrev pub wholeNumbers : List ℕ
+wholeNumbers =
+    1 ∷ 0x40 ∷ 0x59 ∷ 0x40 ∷ 0 ∷ 0 ∷ 0 ∷ 0 ∷ 0 ∷ 0 ∷ 0 ∷ 0 ∷ 0 ∷ 0 ∷ 0 ∷ 0 ∷ 0x65 ∷ 0 ∷ 1
+    ∷ 1 ∷ 0 ∷ 0 ∷ 0 ∷ 0 ∷ 0 ∷ 0 ∷ 0 ∷ 0 ∷ 0 ∷ 0 ∷ 0 ∷ 0 ∷ 0 ∷ 0 ∷ 0 ∷ 0 ∷ 0 ∷ 0x80 ∷ []
+
+-- "Document 01's whole report becomes 44 bytes": behind the Numbers 09 00, 0A 00, 0B 01. One byte less is too short. "One data byte more,
+-- within 12: 09 08 and 0B 02."
+unfoldable pub wholeCases : List Case
+wholeCases =
+    report wholeSupplement wholeFrame 44 (shown (wholeNumbers ++ 9 ∷ 0 ∷ 10 ∷ 0 ∷ 11 ∷ 1 ∷ []))
+    ∷ report wholeSupplement wholeFrame 43 (refused 8 0)
+    ∷ report wholeSupplement (0x48 ∷ 0x6B ∷ 0x10 ∷ 0x41 ∷ 0x65 ∷ 0x80 ∷ 0x99 ∷ 0x57 ∷ []) 44
+    (shown (wholeNumbers ++ 9 ∷ 8 ∷ 10 ∷ 0 ∷ 11 ∷ 2 ∷ []))
+    ∷ []
+
 -- Document 02, K1: "Refusals: 1, 2 (below four bytes), 3, then 9 for a first byte with H = 1 or K = 0".
 unfoldable pub isoCases : List Case
 isoCases =
@@ -77,12 +105,14 @@ lineBy none raw = Unknown 3
 lineBy (some s) raw = formLine (s .form) (s .width) s raw
 
 -- What the definitions answer in a case, and what is expected of them.
-unfoldable pub answered : Case → Line ⊎ ℕ
+unfoldable pub answered : Case → Line ⊎ (ℕ ⊎ Answer (List ℕ))
 answered (item s raw l) = inl (lineBy s raw)
-answered (frame first response n) = inr (readRefusal first response)
-answered (message run n) = inr (isoReadRefusal run)
+answered (frame first response n) = inr (inl (readRefusal first response))
+answered (message run n) = inr (inl (isoReadRefusal run))
+answered (report s first room a) = inr (inr (j1850Answer s first [] room))
 
-unfoldable pub expected : Case → Line ⊎ ℕ
+unfoldable pub expected : Case → Line ⊎ (ℕ ⊎ Answer (List ℕ))
 expected (item s raw l) = inl l
-expected (frame first response n) = inr n
-expected (message run n) = inr n
+expected (frame first response n) = inr (inl n)
+expected (message run n) = inr (inl n)
+expected (report s first room a) = inr (inr a)
