@@ -1,14 +1,14 @@
 -- Laws of rows that are equal byte for byte: their lines have equal fractions.
 use mathlib.Core.Path.{_≡_, refl, sym, ap, _∙_}
-use mathlib.Core.List.{List, [], _∷_, _++_}
-use Prim.Native.Nat.{ℕ, zero, suc, _+_, _-_, _*_, _/_, _%_, _^_, _≤_, _<_}
+use mathlib.Core.List.{List, _∷_, _++_}
+use Prim.Native.Nat.{ℕ, zero, suc, _+_, _*_, _/_, _%_, _^_, _<_}
 use native.Mathlib.Nat.{mod-eq-of-lt, pow-suc, mul-comm, one-le-pow}
 use native.Mathlib.Omega.{arith}
 use lib.Arith.{mod-mul}
-use lib.ListN.{length, take, drop, getD, length-append}
+use lib.ListN.{length, take, drop, getD}
 use lib.Seq.{take-at, drop-at}
 use lib.IntN.{ℤ, pos, negsuc}
-use lib.Ieee.{Float, binary64, toBits}
+use lib.Ieee.{Float}
 use mir.Syntax.{w64}
 use mir.Val.{toZ, ofZ}
 use Rattle.report.specs.declared.line.Line.{Line}
@@ -16,8 +16,8 @@ use Rattle.report.specs.declared.line.Line.the-variants.{Number, State, 
 use Rattle.report.specs.Scaling.{quotient}
 use Rattle.report.specs.Fraction.{IsFraction}
 use Rattle.report.specs.Contracts.{holdsFraction}
-use Rattle.report.specs.Rows.{DoubleBytes, WholeBytes, DivisorBytes, bigEndian, twosComplement, numberBody, row}
-use Rattle.report.proofs.row.Laws.{length-big-endian, whole-reread}
+use Rattle.report.specs.Rows.{WholeBytes, DivisorBytes, bigEndian, twosComplement, numberBody, row}
+use Rattle.report.proofs.row.Laws.{whole-reread, doublePart, frontParts, double-size, front-size}
 
 -- A list cut after as many elements on both sides.
 cut-same : (a c b d : List ℕ) → length a ≡ length c → a ++ b ≡ c ++ d → (a ≡ c) × (b ≡ d)
@@ -54,27 +54,15 @@ bits-told {n = n} f = sym (whole-reread f) ∙ ap (toZ w64) (bits-are n)
     bits-are (pos k) = refl
     bits-are (negsuc k) = refl
 
--- The first part of a Number's body, and the first two.
-abbrev double : Float → List ℕ
-double x = bigEndian DoubleBytes (toBits binary64 x)
-
-abbrev front : Float → ℤ → List ℕ
-front x n = double x ++ bigEndian WholeBytes (twosComplement n)
-
-front-size : (x : Float) (n : ℤ) → length (front x n) ≡ DoubleBytes + WholeBytes
-front-size x n =
-    length-append (double x) (bigEndian WholeBytes (twosComplement n))
-    ∙ (λ i. length-big-endian DoubleBytes (toBits binary64 x) i + length-big-endian WholeBytes (twosComplement n) i)
-
 -- Equal rows of Numbers are those of one whole number and one divisor, and so of one double.
 numbers-same :
     (x y : Float) (n m : ℤ) (d e : ℕ) → IsFraction x n d → IsFraction y m e → row (Number x n d) ≡ row (Number y m e) → Number x n d ≡ Number y m e
 unfolding row
 numbers-same x y n m d e f g same =
     let bodies : numberBody x n d ≡ numberBody y m e = ap (drop 1) same in
-    let outer = cut-same (front x n) (front y m) (bigEndian DivisorBytes d) (bigEndian DivisorBytes e) (front-size x n ∙ sym (front-size y m)) bodies in
-    let size : length (double x) ≡ length (double y) = length-big-endian DoubleBytes (toBits binary64 x) ∙ sym (length-big-endian DoubleBytes (toBits binary64 y)) in
-    let inner = cut-same (double x) (double y) (bigEndian WholeBytes (twosComplement n)) (bigEndian WholeBytes (twosComplement m)) size (outer .0) in
+    let outer = cut-same (frontParts x n) (frontParts y m) (bigEndian DivisorBytes d) (bigEndian DivisorBytes e) (front-size x n ∙ sym (front-size y m)) bodies in
+    let size : length (doublePart x) ≡ length (doublePart y) = double-size x ∙ sym (double-size y) in
+    let inner = cut-same (doublePart x) (doublePart y) (bigEndian WholeBytes (twosComplement n)) (bigEndian WholeBytes (twosComplement m)) size (outer .0) in
     let divisor : d ≡ e = number-same DivisorBytes d e (omega (arith, f .most)) (omega (arith, g .most)) (outer .1) in
     let bits : twosComplement n ≡ twosComplement m = number-same WholeBytes _ _ (bits-small f) (bits-small g) (inner .1) in
     let whole : n ≡ m = bits-told f ∙ ap (toZ w64) bits ∙ sym (bits-told g) in

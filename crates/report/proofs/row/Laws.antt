@@ -102,25 +102,29 @@ mag-abs (negsuc n) = omega arith
 pub whole-reread : {x : Float} {n : ℤ} {d : ℕ} → IsFraction x n d → toZ w64 (ofZ w64 n) ≡ n
 whole-reread {n = n} f = toZ-ofZ w64 n (record { sfits = omega (arith, mag-abs n, f .size) })
 
-pub length-number : (x : Float) (n : ℤ) (d : ℕ) → length (numberBody x n d) ≡ DoubleBytes + WholeBytes + DivisorBytes
+-- The first part of a Number's body, and the first two.
+abbrev pub doublePart : Float → List ℕ
+doublePart x = bigEndian DoubleBytes (toBits binary64 x)
+
+abbrev pub frontParts : Float → ℤ → List ℕ
+frontParts x n = doublePart x ++ bigEndian WholeBytes (twosComplement n)
+
+pub double-size : (x : Float) → length (doublePart x) ≡ DoubleBytes
+double-size x = length-big-endian DoubleBytes (toBits binary64 x)
+
+pub front-size : (x : Float) (n : ℤ) → length (frontParts x n) ≡ DoubleBytes + WholeBytes
+front-size x n =
+    length-append (doublePart x) (bigEndian WholeBytes (twosComplement n))
+    ∙ (λ i. double-size x i + length-big-endian WholeBytes (twosComplement n) i)
+
+length-number : (x : Float) (n : ℤ) (d : ℕ) → length (numberBody x n d) ≡ DoubleBytes + WholeBytes + DivisorBytes
 length-number x n d =
-    let a : List ℕ = bigEndian DoubleBytes (toBits binary64 x) in
-    let b : List ℕ = bigEndian WholeBytes (twosComplement n) in
-    let c : List ℕ = bigEndian DivisorBytes d in
-    let all : length (numberBody x n d) ≡ length (a ++ b) + length c = length-append (a ++ b) c in
-    omega (
-      arith,
-      all,
-      length-append a b,
-      length-big-endian DoubleBytes (toBits binary64 x),
-      length-big-endian WholeBytes (twosComplement n),
-      length-big-endian DivisorBytes d,
-    )
+    length-append (frontParts x n) (bigEndian DivisorBytes d) ∙ (λ i. front-size x n i + length-big-endian DivisorBytes d i)
 
 -- The parts of a Number placed one behind the other make its row.
 pub parts-behind :
     (out : List ℕ) (at : ℕ) (x : Float) (n : ℤ) (d : ℕ) {p q o : List ℕ} {whole bits : ℕ}
-    → (p ≡ placed out at (1 ∷ bigEndian DoubleBytes (toBits binary64 x))) × (whole ≡ at + 1 + DoubleBytes)
+    → (p ≡ placed out at (1 ∷ doublePart x)) × (whole ≡ at + 1 + DoubleBytes)
     → bits ≡ twosComplement n
     → q ≡ placed p whole (bigEndian WholeBytes bits)
     → o ≡ placed q (whole + WholeBytes) (bigEndian DivisorBytes d)
@@ -128,15 +132,12 @@ pub parts-behind :
     → o ≡ placed out at (row (Number x n d))
 unfolding row
 parts-behind out at x n d {p = p} {q = q} {whole = whole} first e second third fits =
-    let a : List ℕ = 1 ∷ bigEndian DoubleBytes (toBits binary64 x) in
     let b : List ℕ = bigEndian WholeBytes (twosComplement n) in
-    let c : List ℕ = bigEndian DivisorBytes d in
-    let la = length-big-endian DoubleBytes (toBits binary64 x) in
-    let lab : length (a ++ b) ≡ 1 + DoubleBytes + WholeBytes =
-    omega (arith, length-append a b, la, length-big-endian WholeBytes (twosComplement n)) in
     let behind : q ≡ placed p whole b = second ∙ ap (λ (w : ℕ). placed p whole (bigEndian WholeBytes w)) e in
-    let two : q ≡ placed out at (a ++ b) = joined out at a b {n = whole} (first .0) behind (omega (arith, la, first .1)) (omega (arith, la)) in
-    joined out at (a ++ b) c {n = whole + WholeBytes} two third (omega (arith, lab, first .1)) (omega (arith, lab))
+    let front : q ≡ placed out at (1 ∷ frontParts x n) =
+    joined out at (1 ∷ doublePart x) b {n = whole} (first .0) behind (omega (arith, double-size x, first .1)) (omega (arith, double-size x)) in
+    joined out at (1 ∷ frontParts x n) (bigEndian DivisorBytes d) {n = whole + WholeBytes} front third
+    (omega (arith, front-size x n, first .1)) (omega (arith, front-size x n))
 
 pub row-some : (l : Line) → 1 ≤ length (row l)
 unfolding row

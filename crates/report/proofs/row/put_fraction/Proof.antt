@@ -17,7 +17,8 @@ returns c =
     let start = first .before .before .before in
     let a = start .args in
     let bits = whole .before .before .twos-complement .ensures ∙ ap twosComplement (whole-reread (start .pre .0)) in (
-      parts-behind (a .out .now) (a .at) (a .value) (a .above) (a .divisor) (first .put-body .ensures) bits (whole .put-number .ensures) (c .before .before .put-number2 .ensures) (start .pre .1),
+      parts-behind (a .out .now) (a .at) (a .value) (a .above) (a .divisor) (first .put-body .ensures) bits (whole .put-number .ensures)
+          (c .before .before .put-number2 .ensures) (start .pre .1),
       refl,
     )
 

@@ -1,7 +1,6 @@
 -- From zero on the number itself; below zero all ones less the number that mirrors it.
 use mathlib.Core.Path.{_≡_, sym, ap, _∙_, subst}
-use mathlib.Core.Bool.{true, false}
-use Prim.Native.Nat.{ℕ, _^_, _-_, _<_}
+use Prim.Native.Nat.{_^_, _-_}
 use native.Mathlib.Omega.{arith}
 use lib.Dec.{T}
 use lib.IntN.{ℤ, pos, negsuc, natAbs, _-ℤ_}
@@ -20,17 +19,18 @@ module _ (c : tie.Then1) where
   same : toZ w64 (ofZ w64 (c .before .args .n)) ≡ c .before .args .n
   same = toZ-ofZ w64 (c .before .args .n) (c .before .fits .n)
 
-  up : T (nonNeg (c .before .args .n)) × (natAbs (c .before .args .n) ≡ twosComplement (c .before .args .n))
+  up : let z = c .before .args .n in T (nonNeg z) × (natAbs z ≡ twosComplement z)
   up = upright (c .before .args .n) (sym (ap (leZ (pos 0)) same) ∙ c .if1 .taken)
 
 module _ (c : tie.Else1) where
-  below : (negsuc 0 -ℤ c .before .args .n ≡ pos (mag (c .before .args .n))) × (twosComplement (c .before .args .n) ≡ 2 ^ 64 - 1 - mag (c .before .args .n))
-  below =
-      let same = toZ-ofZ w64 (c .before .args .n) (c .before .fits .n) in
-      mirrored (c .before .args .n) (sym (ap (leZ (pos 0)) same) ∙ c .if1 .left)
+  known : toZ w64 (ofZ w64 (c .before .args .n)) ≡ c .before .args .n
+  known = toZ-ofZ w64 (c .before .args .n) (c .before .fits .n)
+
+  below : let z = c .before .args .n in (negsuc 0 -ℤ z ≡ pos (mag z)) × (twosComplement z ≡ 2 ^ 64 - 1 - mag z)
+  below = mirrored (c .before .args .n) (sym (ap (leZ (pos 0)) known) ∙ c .if1 .left)
 
   mirror : negsuc 0 -ℤ toZ w64 (ofZ w64 (c .before .args .n)) ≡ pos (mag (c .before .args .n))
-  mirror = ap (λ (z : ℤ). negsuc 0 -ℤ z) (toZ-ofZ w64 (c .before .args .n) (c .before .fits .n)) ∙ below .0
+  mirror = ap (λ (z : ℤ). negsuc 0 -ℤ z) known ∙ below .0
 
   reread-mirror : toZ w64 (ofZ w64 (negsuc 0 -ℤ toZ w64 (ofZ w64 (c .before .args .n)))) ≡ pos (mag (c .before .args .n))
   reread-mirror = reread mirror (c .before .fits .n .sfits)
