@@ -1,18 +1,19 @@
 -- Of every Number that a report shows: the fraction, its double, and what equal rows say.
 use mathlib.Core.Path.{_≡_, sym, subst}
-use mathlib.Core.Bool.{false}
+use mathlib.Core.Bool.{true}
 use mathlib.Core.Logic.{⊎-elim}
 use mathlib.Core.List.{List, [], _∷_, List·Memᴰ, List·Memᴰ·cases-cons, List·Memᴰ·not-nil}
 use Prim.Native.Nat.{ℕ}
 use lib.IntN.{ℤ}
-use lib.Ieee.{Float, isNan}
+use lib.Ieee.{Float}
+use lib.Ieee.Scale.{finite}
 use Rattle.catalogue.proofs.Accepted.{good}
 use Rattle.report.specs.declared.line.Line.{Line}
 use Rattle.report.specs.declared.line.Line.the-variants.{Number}
 use Rattle.report.specs.Rows.{row}
 use Rattle.report.specs.Fraction.{IsFraction, ShownLine}
 use Rattle.report.specs.Contracts.{holdsFraction, allHold}
-use Rattle.report.proofs.scaling.Laws.{fraction-number}
+use Rattle.report.proofs.scaling.Finite.{fraction-finite}
 use Rattle.report.proofs.row.Equal.{line-same}
 use Rattle.report.proofs.message.Held.{numbers-hold}
 
@@ -34,6 +35,6 @@ every-number x n d s = shown-holds (Number x n d) s
 pub equal-rows : (l : Line) (x : Float) (n : ℤ) (d : ℕ) → ShownLine l → ShownLine (Number x n d) → row l ≡ row (Number x n d) → l ≡ Number x n d
 equal-rows l x n d s t same = line-same l x n d (shown-holds l s) (every-number x n d t) same
 
--- "a Number carries a double": one that is a number.
-pub no-nan : (x : Float) (n : ℤ) (d : ℕ) → ShownLine (Number x n d) → isNan x ≡ false
-no-nan x n d s = fraction-number (every-number x n d s)
+-- "a Number carries a double": one that is finite, neither a NaN nor an infinity.
+pub finite-number : (x : Float) (n : ℤ) (d : ℕ) → ShownLine (Number x n d) → finite x ≡ true
+finite-number x n d s = fraction-finite (every-number x n d s)

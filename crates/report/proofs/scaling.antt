@@ -1,2 +1,3 @@
--- Laws of scaling.
+-- Laws of scaling, and of the double of a fraction.
 pub mod Laws
+pub mod Finite

@@ -1,15 +1,12 @@
--- Laws of patterns, of the number above the line and its double, of limits and of digits.
+-- Laws of patterns, of the number above the line, of limits and of digits.
 use mathlib.Core.Path.{_≡_, refl, sym, ap, _∙_, subst}
-use mathlib.Core.Bool.{Bool, true, false, cond, _&&_, true≢false}
+use mathlib.Core.Bool.{Bool, true, false, cond, _&&_}
 use Prim.Native.Nat.{ℕ, zero, suc, _+_, _-_, _*_, _/_, _%_, _^_, _≤_, _<_}
 use native.Mathlib.Nat.{le-of-lt, le-trans, mul-le-mul}
 use native.Mathlib.Omega.{arith}
 use borrow.Author.Tests.{eq-eqb, ne-eqb, lt-ltb, le-ltb, le-leb, lt-leb, ltb-true, ltb-false}
-use lib.Dec.{T, eqb, leb, ltb, le→leb, lt→ltb, ltb→lt}
-use lib.Ieee.{Float, nan, inf, fin, Format, binary64, prec, emax, low, up, down, unlike, odd, units, round, ofInt, div, inFloat, isNan}
-use lib.Ieee.Fits.{round-is}
-use lib.Ieee.Back.{round-whole}
-use lib.Ieee.Positive.{positive, positive-of-value}
+use lib.Dec.{T, eqb, leb, ltb, le→leb, lt→ltb}
+use lib.Ieee.{binary64, inFloat}
 use lib.IntN.{ℤ, pos, negsuc, negℤ, subℕ, _+ℤ_, _-ℤ_, _*ℤ_}
 use lib.Pow.{pow-mono}
 use lib.Signed.{mag, natAbs-le}
@@ -22,9 +19,9 @@ use Rattle.catalogue.specs.Rows.{SNM, SED, BMP, ASC, BCD, BMM, inOrder}
 use Rattle.frame.proofs.bytes.Laws.{cases}
 use Rattle.report.specs.declared.line.Line.the-variants.{State, Bits, Text, Digits, Invalid, Unknown}
 use Rattle.report.specs.Line.{NotShown, NoState, TooWide}
-use Rattle.report.specs.Scaling.{WidestShown, signed, pattern, rawNumber, above, quotient, numberLine, withinLimits, digitsPass, printable, decimal, textLine, digitsLine, formLine}
+use Rattle.report.specs.Scaling.{WidestShown, signed, pattern, rawNumber, above, numberLine, withinLimits, digitsPass, printable, decimal, textLine, digitsLine, formLine}
 use Rattle.report.specs.declared.line.Line.{Line}
-use Rattle.report.specs.Fraction.{MostAbove, IsFraction}
+use Rattle.report.specs.Fraction.{MostAbove}
 use Rattle.report.specs.Contracts.{holdsFraction}
 
 -- A number below 2 ^ 63, known to be another, is read back from its bits as that.
@@ -147,48 +144,6 @@ pub in-float : (z : ℤ) → mag z < 2 ^ 53 → T (inFloat binary64 z)
 unfolding inFloat
 in-float (pos n) h = le→leb n (2 ^ 53) (le-of-lt h)
 in-float (negsuc n) h = lt→ltb n (2 ^ 53) h
-
--- What is rounded is a number, and so is a number divided by one that is finite and above zero.
-odd-number : (d : ℕ) (s : Bool) (q k l : ℕ) → isNan (odd d s q k l) ≡ false
-unfolding odd isNan
-odd-number d s zero k l = refl
-odd-number d s (suc q) k l = refl
-
-units-number : (f : Format) (s : Bool) (q k : ℕ) → isNan (units f s q k) ≡ false
-unfolding units isNan
-units-number f s q k = go (ltb (q * 2 ^ k) (2 ^ (low f + suc (emax f))))
-  where
-    go : (b : Bool) → isNan (cond b (odd (suc (prec f)) s q k (low f)) (inf s)) ≡ false
-    go true = odd-number (suc (prec f)) s q k (low f)
-    go false = refl
-
-round-number : (f : Format) (s : Bool) (a b : ℕ) → isNan (round f s a b) ≡ false
-round-number f s a b = ap isNan (round-is f s a b) ∙ units-number f s _ _
-
-int-number : (f : Format) (z : ℤ) → isNan (ofInt f z) ≡ false
-unfolding ofInt
-int-number f (pos n) = round-number f false n 1
-int-number f (negsuc n) = round-number f true (suc n) 1
-
-div-number : (f : Format) (y x : Float) → T (positive y) → isNan x ≡ false → isNan (div f x y) ≡ false
-unfolding div isNan
-div-number f nan x p e = absurd p
-div-number f (inf t) x p e = absurd p
-div-number f (fin true n d) x p e = absurd p
-div-number f (fin false n d) nan p e = absurd (true≢false e)
-div-number f (fin false n d) (inf s) p e = refl
-div-number f (fin false n d) (fin s m e) p h =
-    let k : eqb n 0 ≡ false = ne-eqb n 0 (λ z. omega (arith, ltb→lt 0 n p)) in
-    rw k (round-number f (unlike s false) (m * up e * down d) (n * up d * down e))
-
--- The double of a fraction is a number.
-pub fraction-number : {x : Float} {n : ℤ} {d : ℕ} → IsFraction x n d → isNan x ≡ false
-unfolding ofInt quotient
-fraction-number {x} {n} {d} f =
-    ap isNan (f .divided)
-    ∙ div-number binary64 (ofInt binary64 (pos d)) (ofInt binary64 n)
-    (positive-of-value (round binary64 false d 1) d 1 (round-whole binary64 false d (omega (arith, f .most))) (f .least))
-    (int-number binary64 n)
 
 -- The pattern is not below the lowest number, and not above the highest.
 pub below-lowest :

@@ -3,7 +3,7 @@ use borrow.Author.Needs.{needs}
 use mathlib.Core.Path.{refl, ap, _∙_}
 use Rattle.report.specs.Rows.{twosComplement}
 use Rattle.report.proofs.row.Laws.{whole-reread, parts-behind}
-use Rattle.report.proofs.scaling.Laws.{fraction-number}
+use Rattle.report.proofs.scaling.Finite.{fraction-number}
 use Rattle.report.proofs.row.put_fraction.Statement.{statement}
 use Rattle.report.proofs.row.put_fraction.Tie as tie
 
