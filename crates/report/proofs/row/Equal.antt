@@ -20,8 +20,8 @@ use Rattle.report.specs.Rows.{WholeBytes, DivisorBytes, bigEndian, twosC
 use Rattle.report.proofs.row.Laws.{whole-reread, doublePart, frontParts, double-size, front-size}
 
 -- A list cut after as many elements on both sides.
-cut-same : (a c b d : List ℕ) → length a ≡ length c → a ++ b ≡ c ++ d → (a ≡ c) × (b ≡ d)
-cut-same a c b d e same = (
+cut-same : (a c : List ℕ) {b d : List ℕ} → length a ≡ length c → a ++ b ≡ c ++ d → (a ≡ c) × (b ≡ d)
+cut-same a c {b} {d} e same = (
   sym (take-at a b (length c) e) ∙ ap (take (length c)) same ∙ take-at c d (length c) refl,
   sym (drop-at a b (length c) e) ∙ ap (drop (length c)) same ∙ drop-at c d (length c) refl,
 )
@@ -60,9 +60,8 @@ numbers-same :
 unfolding row
 numbers-same x y n m d e f g same =
     let bodies : numberBody x n d ≡ numberBody y m e = ap (drop 1) same in
-    let outer = cut-same (frontParts x n) (frontParts y m) (bigEndian DivisorBytes d) (bigEndian DivisorBytes e) (front-size x n ∙ sym (front-size y m)) bodies in
-    let size : length (doublePart x) ≡ length (doublePart y) = double-size x ∙ sym (double-size y) in
-    let inner = cut-same (doublePart x) (doublePart y) (bigEndian WholeBytes (twosComplement n)) (bigEndian WholeBytes (twosComplement m)) size (outer .0) in
+    let outer = cut-same (frontParts x n) (frontParts y m) (front-size x n ∙ sym (front-size y m)) bodies in
+    let inner = cut-same (doublePart x) (doublePart y) (double-size x ∙ sym (double-size y)) (outer .0) in
     let divisor : d ≡ e = number-same DivisorBytes d e (omega (arith, f .most)) (omega (arith, g .most)) (outer .1) in
     let bits : twosComplement n ≡ twosComplement m = number-same WholeBytes _ _ (bits-small f) (bits-small g) (inner .1) in
     let whole : n ≡ m = bits-told f ∙ ap (toZ w64) bits ∙ sym (bits-told g) in

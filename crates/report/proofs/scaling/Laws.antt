@@ -19,7 +19,8 @@ use Rattle.catalogue.specs.Rows.{SNM, SED, BMP, ASC, BCD, BMM, inOrder}
 use Rattle.frame.proofs.bytes.Laws.{cases}
 use Rattle.report.specs.declared.line.Line.the-variants.{State, Bits, Text, Digits, Invalid, Unknown}
 use Rattle.report.specs.Line.{NotShown, NoState, TooWide}
-use Rattle.report.specs.Scaling.{WidestShown, signed, pattern, rawNumber, above, numberLine, withinLimits, digitsPass, printable, decimal, textLine, digitsLine, formLine}
+use Rattle.report.specs.Scaling.{WidestShown, signed, pattern, rawNumber, above, numberLine}
+use Rattle.report.specs.Scaling.{withinLimits, digitsPass, printable, decimal, textLine, digitsLine, formLine}
 use Rattle.report.specs.declared.line.Line.{Line}
 use Rattle.report.specs.Fraction.{MostAbove}
 use Rattle.report.specs.Contracts.{holdsFraction}
