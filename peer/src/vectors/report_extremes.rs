@@ -22,7 +22,7 @@ const LOW: i32 = i32::MIN;
 const HIGH: i32 = i32::MAX;
 
 #[rustfmt::skip]
-const UNSIGNED: [Extreme; 14] = [
+const EXTREMES: [Extreme; 28] = [
     ("multiplier 65535 at FFFFFFFFh",
         UNM, 32, (MOST, 1, 0), 0xFFFF_FFFF, 0x42EFFFDFFFE00020, 0x0000FFFEFFFF0001),
     ("multiplier and divisor 65535 at FFFFFFFFh",
@@ -51,10 +51,6 @@ const UNSIGNED: [Extreme; 14] = [
         UNM, 32, (1, MOST, 0), 0xFFFF, 0x3FF0000000000000, 0xFFFF),
     ("divisor 65535 at 0",
         UNM, 32, (1, MOST, 0), 0, 0, 0),
-];
-
-#[rustfmt::skip]
-const SIGNED: [Extreme; 8] = [
     ("SNM at its lowest",
         SNM, 32, (MOST, 1, LOW), 0x8000_0000, 0xC2E0000000000000, 0xFFFF800000000000),
     ("SNM at its lowest with divisor 65535",
@@ -71,10 +67,6 @@ const SIGNED: [Extreme; 8] = [
         SNM, 32, (1, MOST, 0), 0xFFFF_FFFF, 0xBEF0001000100010, 0xFFFFFFFFFFFFFFFF),
     ("SNM at -1 with 0 above the line",
         SNM, 32, (MOST, MOST, 65535), 0xFFFF_FFFF, 0, 0),
-];
-
-#[rustfmt::skip]
-const NARROWER: [Extreme; 6] = [
     ("width 8: multiplier 65535 at FFh",
         UNM, 8, (MOST, 1, 0), 0xFF, 0x416FDFE020000000, 0x0000000000FEFF01),
     ("width 8: offset 80000000h with divisor 65535",
@@ -92,8 +84,7 @@ const NARROWER: [Extreme; 6] = [
 pub fn all() -> Vec<Bench> {
     let mut list = Vec::new();
     for bus in Bus::BOTH {
-        let extremes = [&UNSIGNED[..], &SIGNED, &NARROWER].concat();
-        list.extend(extremes.iter().map(|extreme| bench(bus, extreme)));
+        list.extend(EXTREMES.iter().map(|extreme| bench(bus, extreme)));
         list.extend(sixteen(bus));
     }
     list
