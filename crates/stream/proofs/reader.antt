@@ -1,0 +1,4 @@
+-- Laws of one call.
+pub mod Laws
+pub mod Going
+pub mod Gives

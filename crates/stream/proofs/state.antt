@@ -1,0 +1,4 @@
+-- Laws of states.
+pub mod Laws
+pub mod Copied
+pub mod Bytes

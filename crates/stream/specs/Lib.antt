@@ -1,0 +1,7 @@
+pub mod Refusal
+pub mod Record
+pub mod Stream
+pub mod Reader
+pub mod State
+pub mod Calls
+pub mod Contracts
