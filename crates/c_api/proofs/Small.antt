@@ -1,5 +1,6 @@
 -- What a call hands over leaves each field of its answer its bits, on any bus.
-use mathlib.Core.Path.{_≡_, sym}
+use mathlib.Core.Path.{_≡_, refl, sym, subst}
+use mathlib.Core.Option.{Option, none, some}
 use mathlib.Core.List.{List}
 use Prim.Native.Nat.{ℕ, _≤_}
 use native.Mathlib.Omega.{arith}
@@ -9,7 +10,8 @@ use Rattle.frame.proofs.frame.Laws.{sizes-handed, runs-handed}
 use Rattle.report.specs.Answer.{Answer, reportAnswer, sized}
 use Rattle.report.specs.Answer as answer
 use Rattle.report.proofs.Size.{place-within, size-within}
-use Rattle.c_api.specs.Contracts.{SmallSizes, SmallRuns, SmallAnswer}
+use Rattle.stream.specs.Reader.{runsTold}
+use Rattle.c_api.specs.Contracts.{SmallSizes, SmallRuns, SmallAnswer, SmallTold}
 
 pub small-sizes :
     (first response : List ℕ) (o : Outcome Parts)
@@ -35,3 +37,16 @@ pub small-answer :
     (s : List ℕ) (o : Outcome Parts) (room : ℕ) (q : Answer ℕ) → q ≡ sized (reportAnswer s o room) → SmallAnswer q
 small-answer s o room (answer.refused n place) e = omega (arith, place-within s o room n place e)
 small-answer s o room (answer.shown size) e = omega (arith, size-within s o room size e)
+
+pub small-told :
+    (o : Option (Outcome Frame))
+    → ((f : Frame) → o ≡ some (accepted f) → frameSize f ≤ MostBytes)
+    → (q : Option (Outcome Runs))
+    → q ≡ runsTold o
+    → SmallTold q
+small-told o within q e = subst SmallTold (sym e) (go o within)
+  where
+    go : (x : Option (Outcome Frame)) → ((f : Frame) → x ≡ some (accepted f) → frameSize f ≤ MostBytes) → SmallTold (runsTold x)
+    go none w = tt
+    go (some (refused n)) w = tt
+    go (some (accepted f)) w = let l = w f refl in (omega (arith, l), omega (arith, l))

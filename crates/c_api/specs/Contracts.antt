@@ -1,5 +1,6 @@
 -- What only inner functions cite: what is handed over leaves each field of an answer its bits. No public contract reaches here.
 use Prim.Native.Nat.{_≤_, _<_}
+use mathlib.Core.Option.{Option, none, some}
 use Rattle.frame.specs.Refusal.{Outcome, refused, accepted}
 use Rattle.frame.specs.Response.{KindData}
 use Rattle.frame.specs.Frame.{Sizes, Runs, MostBytes}
@@ -19,3 +20,7 @@ SmallRuns (accepted r) = (r .first ≤ MostBytes) × (r .response ≤ MostBytes)
 abbrev pub SmallAnswer : Answer ℕ → Type 0
 SmallAnswer (answer.refused n place) = place < Byte3
 SmallAnswer (answer.shown size) = size < Byte3
+
+abbrev pub SmallTold : Option (Outcome Runs) → Type 0
+SmallTold none = Unit {0}
+SmallTold (some o) = SmallRuns o

@@ -1,5 +1,6 @@
 -- The number that each exported call answers: the refusal in its low byte, 0 for none, and what was accepted above it.
 use Prim.Native.Nat.{ℕ, _+_, _*_, _^_}
+use mathlib.Core.Option.{Option, none, some}
 use Rattle.frame.specs.Refusal.{Outcome, refused, accepted}
 use Rattle.frame.specs.Frame.{Sizes, Runs}
 use Rattle.catalogue.specs.declared.supplement.Checked.{Checked}
@@ -37,3 +38,9 @@ checkWord c = c .refusal + c .place * Byte1
 abbrev pub reportWord : Answer ℕ → ℕ
 reportWord (answer.refused n place) = n + place * Byte1
 reportWord (answer.shown size) = size * Byte1
+
+-- Byte 1 is 1 if a frame is given, byte 2 the length of its first run, byte 3 that of its second.
+abbrev pub streamWord : Option (Outcome Runs) → ℕ
+streamWord none = 0
+streamWord (some (refused n)) = n
+streamWord (some (accepted r)) = Byte1 + r .first * Byte2 + r .response * Byte3

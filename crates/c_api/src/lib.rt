@@ -7,6 +7,13 @@ use frame::iso::write_iso;
 use frame::reader::read_frame;
 use frame::writer::write_frame;
 use report::answer::Reported;
+use stream::reader::Told;
+use stream::reader::advance;
+use stream::reader::end_refusal;
+use stream::reader::tell;
+use stream::state::STATE_BYTES;
+use stream::state::bytes_of;
+use stream::state::state_of;
 ghost use mathlib.Core.Path.{_≡_};
 ghost use lib.ListN.{length};
 ghost use Rattle.frame.specs.Frame.{sizes, readingOf, runs, writingOf, outWritten};
@@ -15,8 +22,10 @@ ghost use Rattle.frame.specs.Writer.{writeFrame};
 ghost use Rattle.frame.specs.Iso.{readIso, writeIso};
 ghost use Rattle.catalogue.specs.Supplement.{check};
 ghost use Rattle.report.specs.Answer.{j1850Answer, isoAnswer, sized, outAfter, reportedOf};
-ghost use Rattle.c_api.specs.Words.{readWord, writeWord, checkWord, reportWord};
-ghost use Rattle.c_api.specs.Contracts.{SmallSizes, SmallRuns, SmallAnswer};
+ghost use Rattle.stream.specs.Reader.{answered, runsTold, outTold, toldOf, taken, after, endRefusal};
+ghost use Rattle.stream.specs.State.{positionIn, bytesOf};
+ghost use Rattle.c_api.specs.Words.{readWord, writeWord, checkWord, reportWord, streamWord};
+ghost use Rattle.c_api.specs.Contracts.{SmallSizes, SmallRuns, SmallAnswer, SmallTold};
 
 // What one counts for in bytes 1 to 4 of an answer; byte 0 is the refusal.
 const BYTE_1: u64 = 0x100;
@@ -64,6 +73,17 @@ fn report_word(reported: Reported) -> u64
     match reported {
         Reported::Refused(n, place) => n as u64 + place as u64 * BYTE_1,
         Reported::Shown(size) => size as u64 * BYTE_1,
+    }
+}
+
+fn stream_word(told: Told) -> u64
+    requires { ⌜ SmallTold (toldOf told) ⌝ }
+    ensures { λ r. ⌜ r ≡ streamWord (toldOf told) ⌝ }
+{
+    match told {
+        Told::Nothing => 0,
+        Told::Refused(n) => n as u64,
+        Told::Given { first, second } => BYTE_1 + first as u64 * BYTE_2 + second as u64 * BYTE_3,
     }
 }
 
@@ -136,4 +156,51 @@ pub extern "C" fn rakhubole_iso9141_report(supplement: &[u8], run: &[u8], out: &
     ensures left { λ r. ⌜ now (out .exit) ≡ outAfter (isoAnswer (now (supplement .entry)) (now (run .entry)) (length (now (out .entry)))) (now (out .entry)) ⌝ }
 {
     report_word(report::iso::report(supplement, run, out))
+}
+
+// Tells what comes first in the next part of an adapter's stream, with the runs of a frame at the start of `out`.
+#[no_mangle]
+pub extern "C" fn rakhubole_stream_read(
+    state: &[u8; STATE_BYTES],
+    part: &[u8],
+    out: &mut [u8],
+) -> u64
+    ensures told { λ r. ⌜ r ≡ streamWord (runsTold (answered (positionIn (now (state .entry))) (now (part .entry)) (length (now (out .entry))))) ⌝ }
+    ensures left { λ r. ⌜ now (out .exit) ≡ outTold (answered (positionIn (now (state .entry))) (now (part .entry)) (length (now (out .entry)))) (now (out .entry)) ⌝ }
+{
+    let bytes = *state;
+    stream_word(tell(state_of(bytes), part, out))
+}
+
+// Advances the state over the bytes that the telling call takes.
+#[no_mangle]
+pub extern "C" fn rakhubole_stream_advance(state: &mut [u8; STATE_BYTES], part: &[u8]) -> u64
+    ensures told { λ r. ⌜ r ≡ taken (positionIn (now (state .entry))) (now (part .entry)) ⌝ }
+    ensures left { λ r. ⌜ now (state .exit) ≡ bytesOf (after (positionIn (now (state .entry))) (now (part .entry))) ⌝ }
+{
+    let before = *state;
+    let advanced = advance(state_of(before), part);
+    let behind = advanced.state;
+    let bytes = bytes_of(behind);
+    *state = bytes;
+    advanced.taken as u64
+}
+
+// The refusal of a stream that ends in this state.
+#[no_mangle]
+pub extern "C" fn rakhubole_stream_end(state: &[u8; STATE_BYTES]) -> u64
+    ensures { λ r. ⌜ r ≡ endRefusal (positionIn (now (state .entry))) ⌝ }
+{
+    let bytes = *state;
+    end_refusal(state_of(bytes)) as u64
+}
+
+// The place of the record begun, or of the next.
+#[no_mangle]
+pub extern "C" fn rakhubole_stream_place(state: &[u8; STATE_BYTES]) -> u64
+    ensures { λ r. ⌜ r ≡ positionIn (now (state .entry)) .place ⌝ }
+{
+    let bytes = *state;
+    let begun = state_of(bytes);
+    begun.place
 }
