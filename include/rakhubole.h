@@ -1,6 +1,6 @@
 /* rakhubole.h: frames of SAE J1850 with consolidated headers, messages of
- * ISO 9141-2, the supplement of records that makers add to the SAE tables, and
- * reports of frames and messages.
+ * ISO 9141-2, the supplement of records that makers add to the SAE tables,
+ * reports of frames and messages, and the stream of a cable adapter.
  *
  * Every call takes byte runs and numbers, answers one uint64_t, and keeps
  * nothing between calls. It answers for all input and asks no check of its
@@ -8,11 +8,13 @@
  *
  *   - a run of n bytes is a pointer and n; a NULL pointer with length 0 is an
  *     empty run;
- *   - input runs and `out` do not overlap.
+ *   - a state is a pointer to RAKHUBOLE_STREAM_STATE bytes;
+ *   - what a call writes, `out` or a state, overlaps nothing else that it takes.
  *
- * The low byte of the answer is the refusal, 0 for none. A refused call leaves
- * each byte of `out` as it was, and the bits above the refusal are zero, but
- * for the place of a fault in a supplement.
+ * The low byte of the answer is the refusal, 0 for none; only the calls that
+ * advance a state or tell a place use the whole answer, and they refuse nothing.
+ * A refused call leaves each lent byte as it was, and the bits above the refusal
+ * are zero, but for the place of a fault in a supplement.
  */
 #ifndef RAKHUBOLE_H
 #define RAKHUBOLE_H
@@ -26,7 +28,7 @@ extern "C" {
 
 /* The version of this interface: its calls, answers, refusals and rows. The
  * first number changes where a caller has to change. */
-#define RAKHUBOLE_VERSION "3.0"
+#define RAKHUBOLE_VERSION "3.1"
 
 /* The refusal in an answer, 0 for none. */
 #define RAKHUBOLE_REFUSAL(answer) ((unsigned)((answer) & 0xFF))
@@ -35,7 +37,9 @@ extern "C" {
  * 2, 3, 4, 50, 51, 52, 53, 6, the writer 7, 4, 50, 51, 53, 1, 8. On ISO 9141-2
  * the reader tests 1, 2, 3, 9, the writer 7, 9, 1, 8. A supplement is refused
  * with 10 or, at its first record with a fault, with the lowest of 11 to 15 that
- * applies. A report tests the supplement, then the frame or message, then 8. */
+ * applies. A report tests the supplement, then the frame or message, then 8. The
+ * first record of a stream that is no tick gives 60, 61 or a frame, and then 8;
+ * the end of a stream gives 62. */
 enum {
     /* more than 12 bytes in all, both runs and their check bytes counted */
     RAKHUBOLE_OVER_TWELVE_BYTES = 1,
@@ -74,7 +78,14 @@ enum {
     /* reader: a kind 3 response of one byte, where it needs two */
     RAKHUBOLE_RESPONSE_TOO_FEW = 52,
     /* more than one response byte for kind 1, which has exactly one */
-    RAKHUBOLE_RESPONSE_TOO_MANY = 53
+    RAKHUBOLE_RESPONSE_TOO_MANY = 53,
+    /* stream: a record's kind byte is not 1 or 2; no more is read */
+    RAKHUBOLE_STREAM_KIND_UNKNOWN = 60,
+    /* stream: the lengths of a whole frame record are over 12 together, or an
+     * unused byte of it is not zero; reading goes on at the next record */
+    RAKHUBOLE_STREAM_RECORD_WRONG = 61,
+    /* stream: it ended inside a record */
+    RAKHUBOLE_STREAM_CUT = 62
 };
 
 /* Reads a frame: the run before EOD (header, data, check byte) and the
@@ -249,6 +260,84 @@ enum {
     RAKHUBOLE_FLAGGED = 2,
     RAKHUBOLE_VERDICT_UNKNOWN = 3
 };
+
+/* The stream of a cable adapter: records one after the other, each a kind byte
+ * and a body.
+ *
+ *   kind 1, frame, 14 bytes: length of the first run, length of the second,
+ *     twelve bytes: the first run, the second behind it, unused ones zero
+ *   kind 2, tick, 4 bytes, which are skipped
+ *
+ * The stream comes in parts, cut anywhere. A reader starts with a state of
+ * zeros, hands each state on as it is, and feeds again the bytes that a call did
+ * not take: then it is told the same frames and refusals, in the same order, as
+ * if the stream had come at once. Any 24 bytes are a state:
+ *
+ *   bytes 0 to 7    the place of the record begun, or of the next: the bytes
+ *                   before it, modulo 2 to the 64th, most significant first
+ *   byte 8          not 0 if reading has stopped, after refusal 60
+ *   byte 9          how many bytes of the record begun are held; more than 14
+ *                   counts as 14
+ *   bytes 10 to 23  these bytes; if they are not the beginning of a frame or
+ *                   tick record that needs more bytes, none is held
+ *
+ * A state that a call writes has 0 or 1 in byte 8, at most 14 in byte 9, and
+ * zeros behind the bytes held.
+ */
+enum {
+    RAKHUBOLE_STREAM_STATE = 24,
+    /* the bytes of a frame record and of a tick, kind byte and body */
+    RAKHUBOLE_STREAM_FRAME_RECORD = 15,
+    RAKHUBOLE_STREAM_TICK_RECORD = 5
+};
+
+/* Tells what comes first in the next part: a frame, a refusal, or neither where
+ * the part holds only ticks and the beginning of a record, or reading has
+ * stopped. The state is read only: rakhubole_stream_advance makes the same step.
+ *
+ * A frame: byte 1 of the answer is 1, byte 2 the length of the first run, byte 3
+ * that of the second; the runs stand one behind the other at the start of `out`,
+ * unread, and no byte of `out` beyond them is touched. They are at most twelve
+ * bytes together. Refused: 60, 61, or 8 if `out` is shorter than the runs; make
+ * that call again with a longer one before the state is advanced. Neither: 0.
+ */
+uint64_t rakhubole_stream_read(const uint8_t state[RAKHUBOLE_STREAM_STATE],
+                               const uint8_t *part, size_t part_length,
+                               uint8_t *out, size_t out_length);
+
+#define RAKHUBOLE_STREAM_HAS_FRAME(answer) ((unsigned)((answer) >> 8 & 0xFF))
+#define RAKHUBOLE_STREAM_FIRST(answer) ((size_t)((answer) >> 16 & 0xFF))
+#define RAKHUBOLE_STREAM_SECOND(answer) ((size_t)((answer) >> 24 & 0xFF))
+
+/* Advances the state over the bytes up to the end of the record that
+ * rakhubole_stream_read tells of, or over the whole part if it tells of none;
+ * over none once reading has stopped. Never refused: the whole answer is the
+ * number of bytes taken. The record told of ends at the place of the state that
+ * is written; an unknown kind is a record of one byte.
+ */
+uint64_t rakhubole_stream_advance(uint8_t state[RAKHUBOLE_STREAM_STATE],
+                                  const uint8_t *part, size_t part_length);
+
+/* The stream has ended in this state: 62 if a record is begun and reading has
+ * not stopped, otherwise 0. */
+uint64_t rakhubole_stream_end(const uint8_t state[RAKHUBOLE_STREAM_STATE]);
+
+/* The whole answer is the place of the record begun, or of the next: the bytes
+ * before it, modulo 2 to the 64th. */
+uint64_t rakhubole_stream_place(const uint8_t state[RAKHUBOLE_STREAM_STATE]);
+
+/* Tells and advances in one, and sets `taken` to the bytes taken. After 8 the
+ * state is as it was. */
+static inline uint64_t rakhubole_stream_next(uint8_t state[RAKHUBOLE_STREAM_STATE],
+                                             const uint8_t *part, size_t part_length,
+                                             uint8_t *out, size_t out_length, size_t *taken)
+{
+    uint64_t answer = rakhubole_stream_read(state, part, part_length, out, out_length);
+    *taken = 0;
+    if (RAKHUBOLE_REFUSAL(answer) != RAKHUBOLE_OUT_TOO_SHORT)
+        *taken = (size_t)rakhubole_stream_advance(state, part, part_length);
+    return answer;
+}
 
 #ifdef __cplusplus
 }
