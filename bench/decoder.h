@@ -28,4 +28,13 @@ uint64_t decoder_iso_report(const uint8_t *supplement, size_t supplement_length,
                             const uint8_t *run, size_t run_length, uint8_t *out,
                             size_t out_length);
 
+uint64_t decoder_stream_read(const uint8_t *state, const uint8_t *part, size_t part_length,
+                             uint8_t *out, size_t out_length);
+
+uint64_t decoder_stream_advance(uint8_t *state, const uint8_t *part, size_t part_length);
+
+uint64_t decoder_stream_end(const uint8_t *state);
+
+uint64_t decoder_stream_place(const uint8_t *state);
+
 #endif

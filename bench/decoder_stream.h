@@ -1,0 +1,22 @@
+/* decoder_stream.h: a reader of the adapter's stream with its state in a struct,
+ * as a C program would keep it. */
+#ifndef DECODER_STREAM_H
+#define DECODER_STREAM_H
+
+#include <stdbool.h>
+#include <stddef.h>
+#include <stdint.h>
+
+/* A fresh one is all zeros. */
+struct stream_reader {
+    uint64_t place;
+    bool stopped;
+    size_t count;
+    uint8_t record[15]; /* the bytes of the record begun */
+};
+
+/* Tells and advances in one, as rakhubole_stream_next. */
+uint64_t stream_reader_next(struct stream_reader *reader, const uint8_t *part, size_t part_length,
+                            uint8_t *out, size_t out_length, size_t *taken);
+
+#endif
