@@ -77,7 +77,7 @@ fn test_need(need: usize, out_length: usize) -> Result<(), u8> {
 
 /// An accepted answer: low byte 0, the numbers in the bytes above it.
 /// Each fits a byte, because an accepted frame has `MOST_BYTES` at most.
-fn accepted_answer(numbers: &[usize]) -> u64 {
+pub fn accepted_answer(numbers: &[usize]) -> u64 {
     let mut answer = 0;
     for (place, number) in numbers.iter().enumerate() {
         assert!(*number <= MOST_BYTES);

@@ -1,8 +1,8 @@
 //! A second reading of the rules, apart from the library, to judge it by.
 //!
-//! `frame`, `sae`, `supplement` and `report` hold the rules; `vectors` and
-//! `compare` hold the cases that the two programs of the same names make from
-//! them.
+//! `frame`, `sae`, `supplement`, `report` and `stream` hold the rules; `vectors`
+//! and `compare` hold the cases that the two programs of the same names make
+//! from them.
 
 pub mod case;
 pub mod compare;
@@ -11,6 +11,7 @@ pub mod frame;
 pub mod random;
 pub mod report;
 pub mod sae;
+pub mod stream;
 pub mod supplement;
 pub mod text;
 pub mod vectors;
