@@ -4,11 +4,13 @@ use crate::frame::bus::{Bus, Runs};
 use crate::frame::draft::Draft;
 use crate::frame::{iso, reader, writer};
 use crate::report::line::LONGEST;
+use crate::stream::step;
 use crate::text::hex;
 use crate::{report, supplement};
 use std::fmt;
 
-/// Those without a bus in their name are of J1850, but for the supplement's.
+/// Those without a bus in their name are of J1850, but for the supplement's and
+/// the stream's.
 #[derive(Clone, Copy, Debug, PartialEq)]
 pub enum Call {
     Read,
@@ -18,6 +20,10 @@ pub enum Call {
     IsoRead,
     IsoWrite,
     IsoReport,
+    StreamRead,
+    StreamAdvance,
+    StreamEnd,
+    StreamPlace,
 }
 
 impl Call {
@@ -30,6 +36,10 @@ impl Call {
             Call::IsoRead => "ISO read",
             Call::IsoWrite => "ISO write",
             Call::IsoReport => "ISO report",
+            Call::StreamRead => "stream read",
+            Call::StreamAdvance => "stream advance",
+            Call::StreamEnd => "stream end",
+            Call::StreamPlace => "stream place",
         }
     }
 
@@ -43,11 +53,11 @@ impl Call {
         }
     }
 
-    /// A supplement's test counts with J1850.
+    /// A supplement's test and the stream count with J1850.
     pub fn bus(self) -> Bus {
         match self {
-            Call::Read | Call::Write | Call::Check | Call::Report => Bus::J1850,
             Call::IsoRead | Call::IsoWrite | Call::IsoReport => Bus::Iso9141,
+            _ => Bus::J1850,
         }
     }
 
@@ -66,6 +76,9 @@ impl Call {
             Call::IsoRead => &["run"],
             Call::IsoWrite => &["header", "data", "output"],
             Call::IsoReport => &["supplement", "run", "output"],
+            Call::StreamRead => &["state", "part", "output"],
+            Call::StreamAdvance => &["state", "part"],
+            Call::StreamEnd | Call::StreamPlace => &["state"],
         }
     }
 
@@ -74,7 +87,16 @@ impl Call {
         self.runs().last() == Some(&"output")
     }
 
-    /// The number returned, and the bytes put at the start of the lent output.
+    /// The place of the run that it writes to: the output, or the state.
+    pub fn written(self) -> Option<usize> {
+        match self {
+            Call::StreamAdvance => Some(0),
+            _ => self.has_output().then(|| self.runs().len() - 1),
+        }
+    }
+
+    /// The number returned, and the bytes put at the start of the run that it
+    /// writes to.
     pub fn answer(self, inputs: &[&[u8]], out_length: usize) -> (u64, Vec<u8>) {
         match (self, inputs) {
             (Call::Read, [first, response]) => (reader::answer(first, response), Vec::new()),
@@ -98,6 +120,10 @@ impl Call {
                 out_length,
             }),
             (Call::IsoReport, [supplement, run]) => report::iso_answer(supplement, run, out_length),
+            (Call::StreamRead, [state, part]) => step::answer_to_read(state, part, out_length),
+            (Call::StreamAdvance, [state, part]) => step::answer_to_advance(state, part),
+            (Call::StreamEnd, [state]) => (step::answer_to_end(state), Vec::new()),
+            (Call::StreamPlace, [state]) => (step::answer_to_place(state), Vec::new()),
             _ => panic!("{} runs are not those of {}", inputs.len(), self.name()),
         }
     }
@@ -132,6 +158,23 @@ impl Case {
     /// Lent as much as the longest report needs.
     pub fn report(supplement: Vec<u8>, runs: Runs) -> Case {
         Case::report_on(Bus::J1850, supplement, runs)
+    }
+
+    pub fn stream_read(state: Vec<u8>, part: Vec<u8>, out_length: usize) -> Case {
+        Case {
+            call: Call::StreamRead,
+            inputs: vec![state, part],
+            out_length,
+        }
+    }
+
+    /// Another call of the stream with the same state and part.
+    pub fn beside(&self, call: Call) -> Case {
+        Case {
+            call,
+            inputs: self.inputs[..call.runs().len()].to_vec(),
+            out_length: 0,
+        }
     }
 
     pub fn read_on(bus: Bus, (first, response): Runs) -> Case {

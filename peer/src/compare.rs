@@ -121,8 +121,8 @@ impl Outcome {
             self.counts.count(NULL_RUNS);
         }
         let mut memory = lent.clone();
-        if let Some(out) = memory.last_mut().filter(|_| case.call.has_output()) {
-            out.put(written);
+        if let Some(place) = case.call.written() {
+            memory[place].put(written);
         }
         let given = call(archive, case.call, &mut lent);
         let found = difference(case, (*expected, given), &memory, &lent);

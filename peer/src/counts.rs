@@ -42,11 +42,15 @@ impl Counts {
     }
 }
 
-/// Accepted, or refused with its number; a frame is read or written.
+/// Accepted, or refused with its number; a frame is read or written. A stream
+/// accepts nothing: it has a frame or none, and it ends.
 pub fn class(call: Call, answer: u64) -> String {
-    let verdict = match answer & 0xFF {
-        0 => "accepted".to_string(),
-        number => format!("refused {number}"),
+    let verdict = match (call, answer & 0xFF) {
+        (Call::StreamRead, 0) if answer == 0 => "nothing".to_string(),
+        (Call::StreamRead, 0) => "frame".to_string(),
+        (Call::StreamEnd, 0) => "end".to_string(),
+        (_, 0) => "accepted".to_string(),
+        (_, number) => format!("refused {number}"),
     };
     if call.is(Call::Read) || call.is(Call::Write) {
         format!("{} {verdict}", call.name())
@@ -73,8 +77,14 @@ fn refusals(call: Call) -> &'static [u64] {
         Call::IsoRead => &[1, 2, 3, 9],
         Call::IsoWrite => &[7, 9, 1, 8],
         Call::IsoReport => &[1, 2, 3, 9, 8, 10, 11, 12, 13, 14, 15],
+        Call::StreamRead => &[60, 61, 8],
+        Call::StreamEnd => &[62],
+        Call::StreamAdvance | Call::StreamPlace => panic!("{} refuses nothing", call.name()),
     }
 }
+
+/// The answer to a frame record of two empty runs.
+const ANY_FRAME: u64 = 1 << 8;
 
 const SIXTEEN_ITEMS: &str = "sixteen items";
 
@@ -98,6 +108,9 @@ const FRACTIONS: [Fraction; 7] = [
 /// The classes of answer that a call has.
 pub fn classes(call: Call) -> Vec<String> {
     let mut classes = vec![class(call, 0)];
+    if call == Call::StreamRead {
+        classes.push(class(call, ANY_FRAME));
+    }
     classes.extend(refusals(call).iter().map(|number| class(call, *number)));
     if call.is(Call::Report) {
         let has_response = call.bus() == Bus::J1850;

@@ -53,6 +53,16 @@ extern "C" {
         out: *mut u8,
         out_len: usize,
     ) -> u64;
+    fn rakhubole_stream_read(
+        state: *const u8,
+        part: *const u8,
+        part_len: usize,
+        out: *mut u8,
+        out_len: usize,
+    ) -> u64;
+    fn rakhubole_stream_advance(state: *mut u8, part: *const u8, part_len: usize) -> u64;
+    fn rakhubole_stream_end(state: *const u8) -> u64;
+    fn rakhubole_stream_place(state: *const u8) -> u64;
 }
 
 fn archive(call: Call, runs: &[Run]) -> u64 {
@@ -73,6 +83,14 @@ fn archive(call: Call, runs: &[Run]) -> u64 {
             (Call::IsoReport, [a, b, out]) => {
                 rakhubole_iso9141_report(a.0, a.1, b.0, b.1, out.0, out.1)
             }
+            (Call::StreamRead, [state, part, out]) => {
+                rakhubole_stream_read(state.0, part.0, part.1, out.0, out.1)
+            }
+            (Call::StreamAdvance, [state, part]) => {
+                rakhubole_stream_advance(state.0, part.0, part.1)
+            }
+            (Call::StreamEnd, [state]) => rakhubole_stream_end(state.0),
+            (Call::StreamPlace, [state]) => rakhubole_stream_place(state.0),
             _ => panic!("{} runs are not those of {}", runs.len(), call.name()),
         }
     }

@@ -31,8 +31,8 @@ fn bent(bend: Bend) -> impl Fn(Call, &[Run]) -> u64 {
         let inputs: Vec<&[u8]> = inputs.iter().map(bytes).collect();
         let room = out.first().map_or(0, |out| out.1);
         let (number, written) = bend(call, &inputs, call.answer(&inputs, room));
-        if let Some((start, _)) = out.first() {
-            unsafe { start.copy_from(written.as_ptr(), written.len()) };
+        if let Some(place) = call.written() {
+            unsafe { runs[place].0.copy_from(written.as_ptr(), written.len()) };
         }
         number
     }

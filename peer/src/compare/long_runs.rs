@@ -7,6 +7,8 @@ use crate::frame::check_byte::checked;
 use crate::frame::iso::summed;
 use crate::sae::form::UNM;
 use crate::sae::Prn;
+use crate::stream::draft::frame_of;
+use crate::stream::state::State;
 use crate::supplement::draft::prn_record;
 use std::alloc::{alloc_zeroed, Layout};
 
@@ -29,7 +31,7 @@ impl Outcome {
     }
 
     /// Each run in its turn, then the output. Cut to 32 bits, a long run would be
-    /// sound.
+    /// sound, and a record in a part of a stream would not be whole.
     fn lend_long(&mut self, archive: Archive, call: Call, block: &mut [u8]) {
         let short = Short::of(call);
         block[..short.sound.len()].copy_from_slice(&short.sound);
@@ -47,8 +49,13 @@ impl Outcome {
         let (expected, written) = call.answer(inputs, out.len());
         let of_input = |run: &&[u8]| (run.as_ptr().cast_mut(), run.len());
         let mut runs: Vec<Run> = inputs.iter().map(of_input).collect();
-        if call.has_output() {
-            runs.push((out.as_mut_ptr(), out.len()));
+        match call.written().map(|place| inputs.get(place)) {
+            Some(Some(state)) => {
+                out[..state.len()].copy_from_slice(state);
+                runs[0].0 = out.as_mut_ptr();
+            }
+            Some(None) => runs.push((out.as_mut_ptr(), out.len())),
+            None => {}
         }
         let given = archive(call, &runs);
         self.long_runs = self.long_runs.map(|calls| calls + 1);
@@ -70,6 +77,7 @@ struct Short {
     kind_2: Vec<u8>,
     response: Vec<u8>,
     data: Vec<u8>,
+    state: Vec<u8>,
 }
 
 impl Short {
@@ -77,6 +85,7 @@ impl Short {
         Short {
             sound: match (call, call.bus()) {
                 (Call::Check, _) => prn_record(&Prn::new(0x1234, UNM, 8, 101)),
+                (Call::StreamRead | Call::StreamAdvance, _) => frame_of(&[8], &[9]),
                 (_, Bus::J1850) => checked(&[0x12]),
                 (_, Bus::Iso9141) => summed(&[0x68, 0x6A, 0xF1]),
             },
@@ -84,6 +93,7 @@ impl Short {
             kind_2: vec![0x12],
             response: vec![9],
             data: vec![1, 2],
+            state: State::default().bytes(),
         }
     }
 
@@ -109,6 +119,10 @@ impl Short {
             Call::IsoRead => vec![vec![long(4)]],
             Call::IsoWrite => vec![vec![long(3), &[]], vec![header, long(1)]],
             Call::IsoReport => vec![vec![long(0), sound], vec![&[], long(4)]],
+            Call::StreamRead | Call::StreamAdvance => {
+                vec![vec![&self.state, long(0)], vec![&self.state, long(14)]]
+            }
+            Call::StreamEnd | Call::StreamPlace => vec![],
         }
     }
 
@@ -120,6 +134,7 @@ impl Short {
             Call::Report => vec![&[], &self.sound, &self.response],
             Call::IsoWrite => vec![header, &self.data],
             Call::IsoReport => vec![&[], &self.sound],
+            Call::StreamRead => vec![&self.state, &self.sound],
             _ => panic!("{} has no output", call.name()),
         }
     }

@@ -47,7 +47,7 @@ fn letter(call: Call) -> &'static str {
         Call::Write => "W",
         Call::IsoRead => "r",
         Call::IsoWrite => "w",
-        Call::Check | Call::Report | Call::IsoReport => panic!("{} is no frame's", call.name()),
+        _ => panic!("{} is no frame's", call.name()),
     }
 }
 
