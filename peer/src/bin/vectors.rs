@@ -1,6 +1,6 @@
-//! `vectors LAYER DIR` writes the cases of the frame, supplement or report layer
-//! to DIR/stdin and the expected output to DIR/stdout; those of the report begin
-//! with the bench cases of the papers, with a name for each in DIR/names.
+//! `vectors LAYER DIR` writes the cases of the frame, supplement, report or stream
+//! layer to DIR/stdin and the expected output to DIR/stdout; those of the report
+//! begin with the bench cases of the papers, with a name for each in DIR/names.
 //! `vectors tables DIR` writes the SAE tables to DIR/stdout.
 
 use peer::vectors;
@@ -15,8 +15,9 @@ fn main() -> ExitCode {
         ["tables", _] => vectors::tables::make(),
         ["supplement", _] => vectors::supplement::make(),
         ["report", _] => vectors::report::make(),
+        ["stream", _] => vectors::stream::make(),
         _ => {
-            eprintln!("usage: vectors frame|tables|supplement|report DIR");
+            eprintln!("usage: vectors frame|tables|supplement|report|stream DIR");
             return ExitCode::from(2);
         }
     };
