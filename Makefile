@@ -71,6 +71,7 @@ vectors: peer ## compare the committed vector files with those that the second p
 	$(PEER)/vectors supplement build/vectors/supplement_vectors
 	$(PEER)/vectors tables build/vectors/table_rows
 	$(PEER)/vectors report build/vectors/report_vectors
+	$(PEER)/vectors stream build/vectors/stream_vectors
 	for f in $$(cd build/vectors && find . -type f); do cmp build/vectors/$$f crates/$$f || exit 1; done
 
 random: peer ## run random cases through the archive, judged by the second program
