@@ -10,6 +10,7 @@ RANDOM_MESSAGES := 500000
 RANDOM_SUPPLEMENTS := 300000
 RANDOM_REPORTS := 750000
 RANDOM_PROMISES := 150000
+RANDOM_STREAMS := 200000
 SEED := 1
 # Document 003 as text; where it is not at hand the tables are taken as committed.
 SOURCE := ../shared/003_c37128ede7d9c935.txt
@@ -80,6 +81,7 @@ random: peer ## run random cases through the archive, judged by the second progr
 	$(PEER)/compare supplement $(RANDOM_SUPPLEMENTS) $(SEED)
 	$(PEER)/compare report $(RANDOM_REPORTS) $(SEED)
 	$(PEER)/compare promise $(RANDOM_PROMISES) $(SEED)
+	$(PEER)/compare stream $(RANDOM_STREAMS) $(SEED)
 
 # The tool over a library that gives odd answers, to see what it does with them.
 $(TOOL)-odd: host/tests/odd_library.c $(TOOL_SOURCES) $(TOOL_HEADERS)

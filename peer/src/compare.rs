@@ -10,7 +10,10 @@ mod long_runs;
 pub mod promise;
 mod promise_random;
 mod report_random;
+pub mod stream;
+mod stream_random;
 mod supplement_random;
+mod walk;
 
 use crate::case::{Call, Case};
 use crate::counts::{self, Counts};
@@ -69,6 +72,8 @@ pub struct Outcome {
     cases: u64,
     /// Calls that are made only where memory suffices, in a layer that has such.
     long_runs: Option<u64>,
+    /// What came of all cuts into three parts, in the layer of the stream.
+    all_cuts: Option<String>,
     pub differences: Vec<String>,
 }
 
@@ -80,6 +85,7 @@ impl Outcome {
             counts: Counts::default(),
             cases: 0,
             long_runs: None,
+            all_cuts: None,
             differences: Vec::new(),
         }
     }
@@ -93,14 +99,19 @@ impl Outcome {
         self
     }
 
-    /// The count of each class in one line.
+    /// The count of each class in one line, and the cuts in another.
     pub fn summary(&self) -> String {
         let (layer, cases, differ) = (self.layer, self.cases, self.differences.len());
         let mut counts = self.counts.summary(&self.classes);
         if let Some(calls) = self.long_runs {
             counts += &format!(", runs over 32 bits: {calls}");
         }
-        format!("{layer}: {cases} cases, {differ} differ ({counts})")
+        let all_cuts = self
+            .all_cuts
+            .iter()
+            .map(|cuts| format!("\n{layer}: {cuts}"));
+        let line = format!("{layer}: {cases} cases, {differ} differ ({counts})");
+        line + &all_cuts.collect::<String>()
     }
 
     /// The classes without a case.

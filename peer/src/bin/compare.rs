@@ -1,10 +1,11 @@
 //! `compare frame|iso|supplement|report COUNT SEED` compares the archive with
 //! the rules: `frame` reads and writes on J1850, `iso` on ISO 9141-2, a report is
 //! of either. `compare promise COUNT SEED` tries what reports keep when records
-//! are added to a supplement or taken away.
+//! are added to a supplement or taken away. `compare stream COUNT SEED` feeds
+//! streams part after part and compares what is told with the whole.
 
 use peer::case::Call;
-use peer::compare::{frame, promise, reports, supplements, Outcome, Run};
+use peer::compare::{frame, promise, reports, stream, supplements, Outcome, Run};
 use std::env;
 use std::process::ExitCode;
 
@@ -101,7 +102,7 @@ fn main() -> ExitCode {
     match outcome(&arguments) {
         Some(outcome) => show(&outcome),
         None => {
-            eprintln!("usage: compare frame|iso|supplement|report|promise COUNT SEED");
+            eprintln!("usage: compare frame|iso|supplement|report|promise|stream COUNT SEED");
             ExitCode::from(2)
         }
     }
@@ -117,6 +118,7 @@ fn outcome(arguments: &[String]) -> Option<Outcome> {
         "supplement" => supplements,
         "report" => reports,
         "promise" => promise::run,
+        "stream" => stream::run,
         _ => return None,
     };
     Some(run(&archive, count.parse().ok()?, seed.parse().ok()?))
