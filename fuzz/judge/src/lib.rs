@@ -3,6 +3,7 @@
 use peer::case::Call;
 use peer::frame::check_byte::check_byte;
 use peer::frame::iso;
+use peer::stream::state;
 use std::slice;
 
 /// A lent run; NULL with length 0 is empty.
@@ -19,7 +20,8 @@ fn answer(call: Call, inputs: &[&[u8]]) -> u64 {
     call.answer(inputs, 0).0
 }
 
-/// The answer of a call that puts what it writes at the start of the lent output.
+/// The answer of a call that puts what it writes at the start of the lent output,
+/// or of the state.
 unsafe fn put_answer(call: Call, inputs: &[&[u8]], out: *mut u8, out_length: usize) -> u64 {
     let (answer, written) = call.answer(inputs, out_length);
     if !written.is_empty() {
@@ -120,6 +122,48 @@ pub unsafe extern "C" fn judge_iso_report(
     let message = run(message, message_length);
     let inputs = [run(supplement, supplement_length), message];
     put_answer(Call::IsoReport, &inputs, out, out_length)
+}
+
+/// # Safety
+/// As above, and the state is `state::LENGTH` bytes, here and below; the output
+/// overlaps no input.
+#[no_mangle]
+pub unsafe extern "C" fn judge_stream_read(
+    state: *const u8,
+    part: *const u8,
+    part_length: usize,
+    out: *mut u8,
+    out_length: usize,
+) -> u64 {
+    let inputs = [run(state, state::LENGTH), run(part, part_length)];
+    put_answer(Call::StreamRead, &inputs, out, out_length)
+}
+
+/// # Safety
+/// As above; the state does not overlap the part.
+#[no_mangle]
+pub unsafe extern "C" fn judge_stream_advance(
+    state: *mut u8,
+    part: *const u8,
+    part_length: usize,
+) -> u64 {
+    let before = run(state, state::LENGTH).to_vec();
+    let inputs = [&before[..], run(part, part_length)];
+    put_answer(Call::StreamAdvance, &inputs, state, state::LENGTH)
+}
+
+/// # Safety
+/// As above.
+#[no_mangle]
+pub unsafe extern "C" fn judge_stream_end(state: *const u8) -> u64 {
+    answer(Call::StreamEnd, &[run(state, state::LENGTH)])
+}
+
+/// # Safety
+/// As above.
+#[no_mangle]
+pub unsafe extern "C" fn judge_stream_place(state: *const u8) -> u64 {
+    answer(Call::StreamPlace, &[run(state, state::LENGTH)])
 }
 
 /// The check byte of a run.
