@@ -43,8 +43,9 @@ static void compare(const struct request *request, const char *where, void *stat
     }
     if (answers[0] == answers[1] && memcmp(outputs[0], outputs[1], BUFFER) == 0)
         return;
-    printf("%s: the archive answers %016llX, the C decoder %016llX, %s output\n", where,
-           (unsigned long long)answers[0], (unsigned long long)answers[1],
+    printf("%s, %s: the archive answers %016llX, the C decoder %016llX, %s output\n", where,
+           call_names[request->call], (unsigned long long)answers[0],
+           (unsigned long long)answers[1],
            memcmp(outputs[0], outputs[1], BUFFER) ? "with other" : "with the same");
     exit(1);
 }

@@ -32,7 +32,7 @@ bench: $(BENCH)/bench ## print time, stack and size of the library beside those 
 	@bench/instructions.sh $(BENCH)/bench
 	@$(BENCH)/bench stack crates
 	@printf '\nBytes of code and tables, as size counts them:\n\n%-28s %12s %12s\n' '' archive C
-	@printf '%-28s %12s %12s\n' 'all seven calls' $(call SIZE_OF,$(ARCHIVE)) $(call SIZE_OF,$(DECODER_OBJECTS))
+	@printf '%-28s %12s %12s\n' 'all eleven calls' $(call SIZE_OF,$(ARCHIVE)) $(call SIZE_OF,$(DECODER_OBJECTS))
 	@echo; echo "Names that the archive takes from outside:" $$(nm -u $(ARCHIVE) | awk '$$1 == "U" { print $$2 }')
 
 checks: bench-test

@@ -6,7 +6,8 @@
 #include <stddef.h>
 #include <stdint.h>
 
-/* Those without a bus in their name are of J1850, but for the supplement's. */
+/* Those without a bus in their name are of J1850, but for the supplement's and
+ * the stream's. */
 enum call {
     CALL_READ,
     CALL_WRITE,
@@ -14,9 +15,13 @@ enum call {
     CALL_REPORT,
     CALL_ISO_READ,
     CALL_ISO_WRITE,
-    CALL_ISO_REPORT
+    CALL_ISO_REPORT,
+    CALL_STREAM_READ,
+    CALL_STREAM_ADVANCE,
+    CALL_STREAM_END,
+    CALL_STREAM_PLACE
 };
-#define CALLS 7
+#define CALLS 11
 
 #define MOST_RUNS 3
 
@@ -25,7 +30,8 @@ struct run {
     size_t length;
 };
 
-/* The input runs in the order of the call's arguments, and the output. */
+/* The input runs in the order of the call's arguments, and the output. A state is
+ * a run; the one that a call changes is the output, a copy of the first run. */
 struct request {
     enum call call;
     struct run in[MOST_RUNS];
@@ -34,13 +40,17 @@ struct request {
 };
 
 /* The calls of rakhubole.h by their arguments: one run or two, and two or three
- * with the output. */
+ * with the output; a state, a state and a run with the output, and a state that
+ * is changed by a run. */
 typedef uint64_t one_run_call(const uint8_t *, size_t);
 typedef uint64_t two_run_call(const uint8_t *, size_t, const uint8_t *, size_t);
 typedef uint64_t two_run_output_call(const uint8_t *, size_t, const uint8_t *, size_t, uint8_t *,
                                      size_t);
 typedef uint64_t three_run_output_call(const uint8_t *, size_t, const uint8_t *, size_t,
                                        const uint8_t *, size_t, uint8_t *, size_t);
+typedef uint64_t state_call(const uint8_t *);
+typedef uint64_t state_output_call(const uint8_t *, const uint8_t *, size_t, uint8_t *, size_t);
+typedef uint64_t state_change_call(uint8_t *, const uint8_t *, size_t);
 
 /* All of them, whoever answers. */
 struct calls {
@@ -52,6 +62,10 @@ struct calls {
     one_run_call *iso_read;
     two_run_output_call *iso_write;
     two_run_output_call *iso_report;
+    state_output_call *stream_read;
+    state_change_call *stream_advance;
+    state_call *stream_end;
+    state_call *stream_place;
 };
 
 /* The library, and the decoder written by hand. */
@@ -67,6 +81,14 @@ size_t runs_of(enum call call);
 bool is_write(enum call call);
 bool is_report(enum call call);
 
+/* A call of the stream by a state, the part that it has, if any, and what is lent
+ * to a reader for the runs of a frame; `out` holds that and a state. */
+struct request stream_request(enum call call, const uint8_t *state, struct run part, uint8_t *out,
+                              size_t room);
+
 uint64_t answer_of(const struct calls *calls, const struct request *request);
+
+/* The refusal in an answer; a call that answers with a number refuses nothing. */
+unsigned refusal_of(enum call call, uint64_t answer);
 
 #endif

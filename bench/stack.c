@@ -76,11 +76,31 @@ static uint64_t empty_three_output(const uint8_t *a, size_t a_length, const uint
     return 0;
 }
 
+static uint64_t empty_state(const uint8_t *state)
+{
+    (void)state;
+    return 0;
+}
+
+static uint64_t empty_state_output(const uint8_t *state, const uint8_t *a, size_t a_length,
+                                   uint8_t *out, size_t out_length)
+{
+    (void)state, (void)a, (void)a_length, (void)out, (void)out_length;
+    return 0;
+}
+
+static uint64_t empty_state_change(uint8_t *state, const uint8_t *a, size_t a_length)
+{
+    (void)state, (void)a, (void)a_length;
+    return 0;
+}
+
 size_t stack_depth(const struct calls *calls, const struct request *request)
 {
     static const struct calls empty_calls = {
         "empty", empty_two, empty_three_output, empty_one, empty_three_output,
         empty_one, empty_two_output, empty_two_output,
+        empty_state_output, empty_state_change, empty_state, empty_state,
     };
     return deepest(calls, request) - deepest(&empty_calls, request);
 }

@@ -71,6 +71,26 @@ static void report_case(const char *line, struct request *request)
     request->out_length = number_at(line, 4);
 }
 
+/* The letter S, a state, a part behind its length, and the length lent, in fixed
+ * columns. The line is a case of each call of the stream: this is the first. */
+static void stream_case(const char *line, struct request *request)
+{
+    take_run(request, 0, line + 2, RAKHUBOLE_STREAM_STATE);
+    take_run(request, 1, line + 54, number_at(line + 51, 2));
+    *request = stream_request(CALL_STREAM_READ, runs[0], request->in[1], output,
+                              number_at(line + 183, 2));
+}
+
+/* Makes the request that of the next call which the line is a case of, if there
+ * is one. */
+static bool has_next_call(struct request *request)
+{
+    if (request->call < CALL_STREAM_READ || request->call == CALL_STREAM_PLACE)
+        return false;
+    *request = stream_request(request->call + 1, runs[0], request->in[1], output, 0);
+    return true;
+}
+
 static void require_room(const struct request *request, const char *where)
 {
     if (request->out_length <= BUFFER)
@@ -84,7 +104,7 @@ static size_t visit_file(const char *crates, const char *name,
 {
     static char line[MOST_LINE];
     char path[4096], where[4200];
-    size_t cases = 0;
+    size_t cases = 0, lines = 0;
     snprintf(path, sizeof path, "%s/%s/stdin", crates, name);
     FILE *file = fopen(path, "r");
     if (!file) {
@@ -94,9 +114,12 @@ static size_t visit_file(const char *crates, const char *name,
     while (fgets(line, sizeof line, file)) {
         struct request request = {.out = output};
         parse(line, &request);
-        snprintf(where, sizeof where, "%s, line %zu", path, ++cases);
+        snprintf(where, sizeof where, "%s, line %zu", path, ++lines);
         require_room(&request, where);
-        visitor(&request, where, state);
+        do {
+            visitor(&request, where, state);
+            cases++;
+        } while (has_next_call(&request));
     }
     fclose(file);
     return cases;
@@ -106,5 +129,6 @@ size_t visit_vectors(const char *crates, visit *visitor, void *state)
 {
     return visit_file(crates, "frame_vectors", frame_case, visitor, state) +
            visit_file(crates, "supplement_vectors", supplement_case, visitor, state) +
-           visit_file(crates, "report_vectors", report_case, visitor, state);
+           visit_file(crates, "report_vectors", report_case, visitor, state) +
+           visit_file(crates, "stream_vectors", stream_case, visitor, state);
 }

@@ -34,12 +34,16 @@ EARLIER one_run_call before_rakhubole_supplement_check, before_rakhubole_iso9141
 EARLIER two_run_call before_rakhubole_j1850_read;
 EARLIER two_run_output_call before_rakhubole_iso9141_write, before_rakhubole_iso9141_report;
 EARLIER three_run_output_call before_rakhubole_j1850_write, before_rakhubole_j1850_report;
+EARLIER state_call before_rakhubole_stream_end, before_rakhubole_stream_place;
+EARLIER state_output_call before_rakhubole_stream_read;
+EARLIER state_change_call before_rakhubole_stream_advance;
 
 static const struct calls before_calls = {
     "before", before_rakhubole_j1850_read, before_rakhubole_j1850_write,
     before_rakhubole_supplement_check, before_rakhubole_j1850_report,
     before_rakhubole_iso9141_read, before_rakhubole_iso9141_write,
-    before_rakhubole_iso9141_report,
+    before_rakhubole_iso9141_report, before_rakhubole_stream_read,
+    before_rakhubole_stream_advance, before_rakhubole_stream_end, before_rakhubole_stream_place,
 };
 static const struct calls *const both[] = {&before_calls, &archive_calls};
 static const char *const names[] = {"before", "now"};
@@ -54,6 +58,8 @@ static bool is_shared(enum call call)
     const bool had[CALLS] = {
         before_calls.read, before_calls.write, before_calls.check, before_calls.report,
         before_calls.iso_read, before_calls.iso_write, before_calls.iso_report,
+        before_calls.stream_read, before_calls.stream_advance, before_calls.stream_end,
+        before_calls.stream_place,
     };
     return had[call];
 }

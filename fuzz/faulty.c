@@ -128,4 +128,5 @@ static uint64_t faulty_iso_report(const uint8_t *supplement, size_t supplement_l
 const struct calls archive_calls = {
     "faulty", decoder_read, decoder_write, decoder_check, faulty_report,
     decoder_iso_read, decoder_iso_write, faulty_iso_report,
+    decoder_stream_read, decoder_stream_advance, decoder_stream_end, decoder_stream_place,
 };
