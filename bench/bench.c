@@ -5,13 +5,14 @@
  *   bench times CRATES      compares, then times the cases
  *   bench stack CRATES      the deepest stack over the cases and the vectors
  *   bench list              the cases by number, call and name
- *   bench once CASE WHO     one call of a case, by archive or C, to be counted
+ *   bench once CASE WHO     a case once, by archive or C, to be counted
  */
 #define _POSIX_C_SOURCE 200809L
 
 #include "cases.h"
 #include "rakhubole.h"
 #include "stack.h"
+#include "streams.h"
 #include "vectors.h"
 
 #include <stdio.h>
@@ -78,16 +79,25 @@ static double now(void)
     return (double)time.tv_sec * 1e9 + (double)time.tv_nsec;
 }
 
-/* Nanoseconds of a call, over so many of them. */
+/* The call, or all those of a stream. */
+static void run_case(const struct calls *calls, const struct request *request)
+{
+    if (request->call == CALL_STREAM_READ)
+        feed_stream(calls, request->in[1].length);
+    else
+        answer_of(calls, request);
+}
+
+/* Nanoseconds of a case, run so often. */
 static double time_of(const struct calls *calls, const struct request *request, size_t count)
 {
     double start = now();
     for (size_t i = 0; i < count; i++)
-        answer_of(calls, request);
+        run_case(calls, request);
     return (now() - start) / (double)count;
 }
 
-static size_t calls_in_round(const struct calls *calls, const struct request *request)
+static size_t cases_in_round(const struct calls *calls, const struct request *request)
 {
     size_t count = 1;
     while (time_of(calls, request, count) * (double)count < ROUND_NANOSECONDS)
@@ -115,7 +125,7 @@ static int compare_times(const void *a, const void *b)
 static void time_both(const struct request *request, double median[2])
 {
     const struct calls *both[2] = {&archive_calls, &decoder_calls};
-    size_t count[2] = {calls_in_round(both[0], request), calls_in_round(both[1], request)};
+    size_t count[2] = {cases_in_round(both[0], request), cases_in_round(both[1], request)};
     double times[2][ROUNDS];
     for (size_t round = 0; round < ROUNDS; round++)
         for (int who = 0; who < 2; who++)
@@ -129,8 +139,9 @@ static void time_both(const struct request *request, double median[2])
 static void show_times(void)
 {
     printf("\nNanoseconds of a call, median of %d rounds of at least %.0f ms, in turns,\n"
-           "each at another place of the stack:\n\n",
-           ROUNDS, ROUND_NANOSECONDS / 1e6);
+           "each at another place of the stack; of a stream those of all its calls, over\n"
+           "%zu bytes with %d frames and %d ticks:\n\n",
+           ROUNDS, ROUND_NANOSECONDS / 1e6, bench_stream().length, STREAM_FRAMES, STREAM_TICKS);
     printf("%-28s %12s %12s %8s   %s\n", "case", "archive", "C", "ratio", "target");
     for (size_t i = 0; i < CASE_COUNT; i++) {
         const struct bench_case *c = &bench_cases()[i];
@@ -193,7 +204,7 @@ static int call_once(const char *number, const char *who)
                                                                        : NULL;
     if (i >= CASE_COUNT || !calls)
         return 0;
-    answer_of(calls, &bench_cases()[i].request);
+    run_case(calls, &bench_cases()[i].request);
     return 1;
 }
 

@@ -2,6 +2,7 @@
 
 #include "format.h"
 #include "rakhubole.h"
+#include "streams.h"
 
 #include <string.h>
 
@@ -142,6 +143,13 @@ static struct run sealed(enum call write, uint8_t *frame, size_t length)
     return (struct run){frame, length};
 }
 
+static struct request first_step(size_t part_length)
+{
+    static const uint8_t fresh[RAKHUBOLE_STREAM_STATE];
+    struct run part = {bench_stream().bytes, part_length};
+    return stream_request(CALL_STREAM_READ, fresh, part, output, FRAME_MOST);
+}
+
 const struct bench_case *bench_cases(void)
 {
     static struct supplement small, full_of_prns, full_of_slots;
@@ -163,6 +171,9 @@ const struct bench_case *bench_cases(void)
         {"ISO report, one layout", with_output(CALL_ISO_REPORT, layout, iso_two_items), 0},
         {"ISO read", {.call = CALL_ISO_READ, .in = {iso_seven_items}}, 0},
         {"ISO write", writing(CALL_ISO_WRITE, full_message, sizeof full_message), 0},
+        {"stream, 4 KiB at a time", first_step(4096), 4.0},
+        {"stream, 16 bytes at a time", first_step(16), 4.0},
+        {"stream, 1 byte at a time", first_step(1), 4.0},
     };
     memcpy(cases, made, sizeof made);
     return cases;

@@ -4,10 +4,11 @@
 
 #include "calls.h"
 
-#define CASE_COUNT 9
+#define CASE_COUNT 12
 
 struct bench_case {
     const char *name;
+    /* one call; a reading of a stream is the first step of all of it, in such parts */
     struct request request;
     /* the most that the archive's time may be of the other's; 0 for none */
     double target;
