@@ -16,13 +16,13 @@ struct supplement {
 
 static uint8_t output[RAKHUBOLE_ROWS_MOST];
 
-/* Header 48 6B 10, selector 41; the check bytes are put when the cases are made.
- * The first byte has H = 0 and K = 1, as ISO 9141-2 asks, so that the messages
- * differ from the frames in the check byte alone. */
-#define TWO_ITEMS {0x48, 0x6B, 0x10, 0x41, 0x65, 0x80}
-#define SEVEN_ITEMS {0x48, 0x6B, 0x10, 0x41, 1, 2, 3, 4, 5, 6, 7}
-static uint8_t short_frame[7] = TWO_ITEMS, short_message[7] = TWO_ITEMS;
-static uint8_t full_frame[FRAME_MOST] = SEVEN_ITEMS, full_message[FRAME_MOST] = SEVEN_ITEMS;
+/* Header 48 6B 10, selector 41. The first byte has H = 0 and K = 1, as ISO 9141-2
+ * asks, so that the messages differ from the frames in the check byte alone. These
+ * are not computed: a call that made them would count as one of the case. */
+#define TWO_ITEMS 0x48, 0x6B, 0x10, 0x41, 0x65, 0x80
+#define SEVEN_ITEMS 0x48, 0x6B, 0x10, 0x41, 1, 2, 3, 4, 5, 6, 7
+static const uint8_t short_frame[] = {TWO_ITEMS, 0x29}, short_message[] = {TWO_ITEMS, 0xE9};
+static const uint8_t full_frame[] = {SEVEN_ITEMS, 0xA7}, full_message[] = {SEVEN_ITEMS, 0x20};
 
 static void put(struct supplement *supplement, uint32_t number, size_t bytes)
 {
@@ -134,15 +134,6 @@ static struct request writing(enum call call, const uint8_t *frame, size_t lengt
     return with_output(call, header, data);
 }
 
-/* Puts the check byte of a frame or message by writing its parts. */
-static struct run sealed(enum call write, uint8_t *frame, size_t length)
-{
-    struct request request = writing(write, frame, length);
-    answer_of(&archive_calls, &request);
-    frame[length - 1] = output[length - 1];
-    return (struct run){frame, length};
-}
-
 static struct request first_step(size_t part_length)
 {
     static const uint8_t fresh[RAKHUBOLE_STREAM_STATE];
@@ -156,10 +147,10 @@ const struct bench_case *bench_cases(void)
     static struct bench_case cases[CASE_COUNT];
     if (cases[0].name)
         return cases;
-    struct run two_items = sealed(CALL_WRITE, short_frame, sizeof short_frame);
-    struct run seven_items = sealed(CALL_WRITE, full_frame, sizeof full_frame);
-    struct run iso_two_items = sealed(CALL_ISO_WRITE, short_message, sizeof short_message);
-    struct run iso_seven_items = sealed(CALL_ISO_WRITE, full_message, sizeof full_message);
+    struct run two_items = {short_frame, sizeof short_frame};
+    struct run seven_items = {full_frame, sizeof full_frame};
+    struct run iso_two_items = {short_message, sizeof short_message};
+    struct run iso_seven_items = {full_message, sizeof full_message};
     struct run layout = one_layout();
     const struct bench_case made[CASE_COUNT] = {
         {"report, one layout", report(layout, two_items), 1.0},
