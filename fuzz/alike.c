@@ -66,12 +66,11 @@ static bool is_shared(enum call call)
 
 /* ---- Comparing ---- */
 
-/* All that is lent to a call, the output last, guard bytes around each. The call
- * now may be lent as much again as the other. */
+/* All that is lent to a call, the output last, guard bytes around each. */
 struct arena {
     size_t places[MOST_LENT];
     size_t length;
-    uint8_t bytes[MOST_RUNS * MOST_LENT_BYTES + 2 * MOST_OUT + (MOST_LENT + 1) * GUARD_BYTES];
+    uint8_t bytes[MOST_RUNS * MOST_LENT_BYTES + MOST_OUT + (MOST_LENT + 1) * GUARD_BYTES];
 };
 
 static struct arena lent, left[2];
@@ -109,84 +108,27 @@ static bool has_output(enum call call)
     return is_write(call) || is_report(call);
 }
 
-/* The bytes that a call wrote, never more than it was lent; none if it refused. */
-static size_t written_by(const struct request *request, uint64_t answer)
-{
-    if (RAKHUBOLE_REFUSAL(answer) != 0 || !has_output(request->call))
-        return 0;
-    size_t length = is_write(request->call)
-                        ? RAKHUBOLE_WRITE_FIRST(answer) + RAKHUBOLE_WRITE_RESPONSE(answer)
-                        : RAKHUBOLE_ROWS_LENGTH(answer);
-    return length < request->out_length ? length : request->out_length;
-}
-
-/* What an archive writes if there is room. */
-static size_t result_length(int who, const struct request *request)
+/* The length of what the call gives if there is room; 0 if it is refused. */
+static size_t result_length(const struct request *request)
 {
     struct request mine = *request;
     mine.out_length = MOST_OUT;
     lend_all(&mine);
-    return written_by(&mine, answer_in(&left[who], both[who], &mine));
-}
-
-/* An archive before 3.0 shows a Number as a double alone: its rows are those of
- * now without the fractions. */
-#define FRACTION (RAKHUBOLE_NUMBER_BODY - RAKHUBOLE_NUMBER_ABOVE)
-/* How often rows were compared so. */
-static unsigned long without_fractions;
-
-static bool is_alike_without_fractions(const uint8_t *before, size_t before_length,
-                                       const uint8_t *now, size_t now_length)
-{
-    size_t place = 0, at = 0;
-    while (at < now_length && place < before_length) {
-        size_t size = 1 + body_size(now[at]);
-        size_t compared = size - (now[at] == RAKHUBOLE_ROW_NUMBER ? FRACTION : 0);
-        if (memcmp(before + place, now + at, compared) != 0)
-            return false;
-        place += compared;
-        at += size;
-    }
-    without_fractions++;
-    return at == now_length && place == before_length;
-}
-
-/* What the call now has to be lent besides, so that where the earlier one has
- * just enough, or lacks a byte, so does this one. */
-static size_t room_for_fractions(const struct request *request)
-{
-    if (!is_report(request->call))
+    uint64_t answer = answer_in(&left[0], &before_calls, &mine);
+    if (RAKHUBOLE_REFUSAL(answer) != 0)
         return 0;
-    size_t before = result_length(0, request), now = result_length(1, request);
-    return now > before ? now - before : 0;
+    return is_write(request->call)
+               ? RAKHUBOLE_WRITE_FIRST(answer) + RAKHUBOLE_WRITE_RESPONSE(answer)
+               : RAKHUBOLE_ROWS_LENGTH(answer);
 }
 
-static bool is_result_alike(enum call call, const size_t written[2])
+/* Both leave the same bytes, and all but the output as they were. */
+static bool is_memory_alike(const struct request *request)
 {
-    const uint8_t *before = left[0].bytes + lent.places[MOST_RUNS];
-    const uint8_t *now = left[1].bytes + lent.places[MOST_RUNS];
-    if (written[0] == written[1])
-        return memcmp(before, now, written[0]) == 0;
-    return is_report(call) && is_alike_without_fractions(before, written[0], now, written[1]);
-}
-
-/* All but what it wrote is as it was lent. */
-static bool is_rest_untouched(int who, size_t written)
-{
-    size_t out = lent.places[MOST_RUNS], end = out + written;
-    return memcmp(left[who].bytes, lent.bytes, out) == 0 &&
-           memcmp(left[who].bytes + end, lent.bytes + end, lent.length - end) == 0;
-}
-
-/* The answers differ in no more than the length of what was written, from bit 8
- * on; that is alike, and nothing else is touched. */
-static bool is_alike(const struct request requests[2], const uint64_t answers[2])
-{
-    const size_t written[] = {written_by(&requests[0], answers[0]),
-                              written_by(&requests[1], answers[1])};
-    return answers[1] - answers[0] == (uint64_t)(written[1] - written[0]) << 8 &&
-           is_result_alike(requests[0].call, written) &&
-           is_rest_untouched(0, written[0]) && is_rest_untouched(1, written[1]);
+    size_t out = lent.places[MOST_RUNS], end = out + request->out_length;
+    return memcmp(left[0].bytes, left[1].bytes, lent.length) == 0 &&
+           memcmp(left[0].bytes, lent.bytes, out) == 0 &&
+           memcmp(left[0].bytes + end, lent.bytes + end, lent.length - end) == 0;
 }
 
 static void show_run(const char *name, const uint8_t *run, size_t length)
@@ -210,33 +152,30 @@ static void show_touched(const struct request *request, int who)
     }
 }
 
-static void show_case(const struct request requests[2], const char *where,
-                      const uint64_t answers[2])
+static void show_case(const struct request *request, const char *where, const uint64_t answers[2])
 {
-    enum call call = requests[0].call;
-    printf("%s, %s: before %016llX, now %016llX\n", where, call_names[call],
-           (unsigned long long)answers[0], (unsigned long long)answers[1]);
-    for (size_t i = 0; i < runs_of(call); i++)
-        show_run("run", requests[0].in[i].bytes, requests[0].in[i].length);
+    printf("%s, %s: before %016llX, now %016llX, lent %zu bytes for output\n", where,
+           call_names[request->call], (unsigned long long)answers[0],
+           (unsigned long long)answers[1], request->out_length);
+    for (size_t i = 0; i < runs_of(request->call); i++)
+        show_run("run", request->in[i].bytes, request->in[i].length);
     for (int who = 0; who < 2; who++) {
-        show_run(names[who], left[who].bytes + lent.places[MOST_RUNS], requests[who].out_length);
-        show_touched(&requests[who], who);
+        show_run(names[who], left[who].bytes + lent.places[MOST_RUNS], request->out_length);
+        show_touched(request, who);
     }
 }
 
 static void try_case(const struct request *request, const char *where)
 {
-    struct request requests[] = {*request, *request};
     uint64_t answers[2];
     cases++;
-    requests[1].out_length += room_for_fractions(request);
-    lend_all(&requests[1]);
+    lend_all(request);
     for (int who = 0; who < 2; who++)
-        answers[who] = answer_in(&left[who], both[who], &requests[who]);
-    if (is_alike(requests, answers))
-        count_classes(&requests[1], answers[1], left[1].bytes + lent.places[MOST_RUNS]);
+        answers[who] = answer_in(&left[who], both[who], request);
+    if (answers[0] == answers[1] && is_memory_alike(request))
+        count_classes(request, answers[1], left[1].bytes + lent.places[MOST_RUNS]);
     else if (differences++ == 0)
-        show_case(requests, where, answers);
+        show_case(request, where, answers);
 }
 
 static void try_vector(const struct request *request, const char *where, void *state)
@@ -250,7 +189,7 @@ static void try_vector(const struct request *request, const char *where, void *s
     try_case(request, where);
     if (!has_output(request->call))
         return;
-    size_t exact = result_length(0, request);
+    size_t exact = result_length(request);
     const size_t rooms[] = {exact, exact ? exact - 1 : 0, 0, MOST_OUT};
     for (size_t i = 0; i < sizeof rooms / sizeof *rooms; i++) {
         mine.out_length = rooms[i];
@@ -421,7 +360,7 @@ static size_t random_room(const struct request *request)
     uint8_t bytes[3];
     struct feed feed = {bytes, sizeof bytes};
     fill_random(bytes, sizeof bytes);
-    size_t exact = result_length(0, request);
+    size_t exact = result_length(request);
     const size_t rooms[] = {MOST_OUT, MOST_OUT, MOST_OUT, exact, exact, exact,
                             exact ? exact - 1 : 0, take_room(&feed)};
     return rooms[take_byte(&feed) % (sizeof rooms / sizeof *rooms)];
@@ -477,7 +416,6 @@ int main(int count, char **words)
         return 1;
     try_random_cases(wanted);
     show_calls();
-    printf("%lu reports compared without the fractions of their Numbers\n", without_fractions);
     printf("%lu cases, %lu differ\n", cases, differences);
     return differences ? 1 : 0;
 }
