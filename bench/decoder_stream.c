@@ -3,45 +3,50 @@
 #include "decoder.h"
 #include "decoder_stream.h"
 
+#include "format.h"
 #include "rakhubole.h"
 
 #include <string.h>
 
-enum { FRAME_KIND = 1, TICK_KIND = 2, RUNS_AT = 3 };
-
-/* The bytes of a record of this kind; an unknown kind is one byte. */
-static size_t record_size(uint8_t kind)
+size_t stream_record_size(uint8_t kind)
 {
-    return kind == FRAME_KIND  ? RAKHUBOLE_STREAM_FRAME_RECORD
-           : kind == TICK_KIND ? RAKHUBOLE_STREAM_TICK_RECORD
-                               : 1;
+    return kind == STREAM_FRAME  ? RAKHUBOLE_STREAM_FRAME_RECORD
+           : kind == STREAM_TICK ? RAKHUBOLE_STREAM_TICK_RECORD
+                                 : 1;
+}
+
+/* The bytes of both runs of a frame's record. */
+static size_t runs_length(const uint8_t *record)
+{
+    return (size_t)record[STREAM_FIRST_LENGTH] + record[STREAM_SECOND_LENGTH];
 }
 
 /* The lengths fit, and the bytes behind both runs are zero. */
-static int record_fits(const uint8_t *record)
+static bool record_fits(const uint8_t *record)
 {
-    size_t length = (size_t)record[1] + record[2];
-    if (length > RAKHUBOLE_STREAM_FRAME_RECORD - RUNS_AT)
-        return 0;
-    for (size_t i = RUNS_AT + length; i < RAKHUBOLE_STREAM_FRAME_RECORD; i++)
+    size_t length = runs_length(record);
+    if (length > FRAME_MOST)
+        return false;
+    for (size_t i = STREAM_RUNS + length; i < RAKHUBOLE_STREAM_FRAME_RECORD; i++)
         if (record[i] != 0)
-            return 0;
-    return 1;
+            return false;
+    return true;
 }
 
 /* What a whole record tells; the runs of a frame go to `out`. */
 static uint64_t record_answer(const uint8_t *record, uint8_t *out, size_t out_length)
 {
-    if (record[0] != FRAME_KIND)
+    if (record[0] != STREAM_FRAME)
         return RAKHUBOLE_STREAM_KIND_UNKNOWN;
     if (!record_fits(record))
         return RAKHUBOLE_STREAM_RECORD_WRONG;
-    size_t length = (size_t)record[1] + record[2];
+    size_t length = runs_length(record);
     if (out_length < length)
         return RAKHUBOLE_OUT_TOO_SHORT;
     if (length > 0)
-        memcpy(out, record + RUNS_AT, length);
-    return 1u << 8 | (uint64_t)record[1] << 16 | (uint64_t)record[2] << 24;
+        memcpy(out, record + STREAM_RUNS, length);
+    return 1u << 8 | (uint64_t)record[STREAM_FIRST_LENGTH] << 16 |
+           (uint64_t)record[STREAM_SECOND_LENGTH] << 24;
 }
 
 /* The record begun is over. */
@@ -60,9 +65,9 @@ uint64_t stream_reader_next(struct stream_reader *reader, const uint8_t *part, s
     struct stream_reader before = *reader;
     for (size_t i = 0; i < part_length; i++) {
         reader->record[reader->count++] = part[i];
-        if (reader->count < record_size(reader->record[0]))
+        if (reader->count < stream_record_size(reader->record[0]))
             continue;
-        if (reader->record[0] == TICK_KIND) {
+        if (reader->record[0] == STREAM_TICK) {
             pass_record(reader);
             continue;
         }
@@ -82,17 +87,15 @@ uint64_t stream_reader_next(struct stream_reader *reader, const uint8_t *part, s
 
 /* ---- The calls over 24 bytes ---- */
 
-enum { STOPPED_AT = 8, COUNT_AT = 9, HELD_AT = 10, HELD_MOST = 14 };
-
 static struct stream_reader reader_of(const uint8_t *state)
 {
-    struct stream_reader reader = {.stopped = state[STOPPED_AT] != 0};
-    for (size_t i = 0; i < STOPPED_AT; i++)
+    struct stream_reader reader = {.stopped = state[STATE_STOPPED] != 0};
+    for (size_t i = 0; i < STATE_STOPPED; i++)
         reader.place = reader.place << 8 | state[i];
-    size_t count = state[COUNT_AT] < HELD_MOST ? state[COUNT_AT] : HELD_MOST;
-    if (count < record_size(state[HELD_AT])) {
+    size_t count = state[STATE_COUNT] < STATE_HELD_MOST ? state[STATE_COUNT] : STATE_HELD_MOST;
+    if (count < stream_record_size(state[STATE_HELD])) {
         reader.count = count;
-        memcpy(reader.record, state + HELD_AT, count);
+        memcpy(reader.record, state + STATE_HELD, count);
     }
     return reader;
 }
@@ -100,11 +103,11 @@ static struct stream_reader reader_of(const uint8_t *state)
 static void write_state(const struct stream_reader *reader, uint8_t *state)
 {
     memset(state, 0, RAKHUBOLE_STREAM_STATE);
-    for (size_t i = 0; i < STOPPED_AT; i++)
-        state[i] = (uint8_t)(reader->place >> (8 * (STOPPED_AT - 1 - i)));
-    state[STOPPED_AT] = reader->stopped;
-    state[COUNT_AT] = (uint8_t)reader->count;
-    memcpy(state + HELD_AT, reader->record, reader->count);
+    for (size_t i = 0; i < STATE_STOPPED; i++)
+        state[i] = (uint8_t)(reader->place >> (8 * (STATE_STOPPED - 1 - i)));
+    state[STATE_STOPPED] = reader->stopped;
+    state[STATE_COUNT] = (uint8_t)reader->count;
+    memcpy(state + STATE_HELD, reader->record, reader->count);
 }
 
 uint64_t decoder_stream_read(const uint8_t *state, const uint8_t *part, size_t part_length,
@@ -118,7 +121,7 @@ uint64_t decoder_stream_read(const uint8_t *state, const uint8_t *part, size_t p
 uint64_t decoder_stream_advance(uint8_t *state, const uint8_t *part, size_t part_length)
 {
     struct stream_reader reader = reader_of(state);
-    uint8_t runs[RAKHUBOLE_STREAM_FRAME_RECORD];
+    uint8_t runs[FRAME_MOST];
     size_t taken;
     stream_reader_next(&reader, part, part_length, runs, sizeof runs, &taken);
     write_state(&reader, state);

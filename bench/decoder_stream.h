@@ -7,6 +7,13 @@
 #include <stddef.h>
 #include <stdint.h>
 
+/* The bytes of a record of this kind; an unknown kind is one byte. */
+size_t stream_record_size(uint8_t kind);
+
+/* Where the parts of a state of rakhubole.h stand behind the place, and how many
+ * bytes of a record it can hold. */
+enum { STATE_STOPPED = 8, STATE_COUNT = 9, STATE_HELD = 10, STATE_HELD_MOST = 14 };
+
 /* A fresh one is all zeros. */
 struct stream_reader {
     uint64_t place;

@@ -16,7 +16,7 @@ static uint8_t *put_frame(uint8_t *at, size_t number)
 {
     size_t first = 4 + number % (FRAME_MOST - 3);
     size_t second = number % 3 == 0 && first < FRAME_MOST;
-    *at++ = 1;
+    *at++ = STREAM_FRAME;
     *at++ = (uint8_t)first;
     *at++ = (uint8_t)second;
     for (size_t i = 0; i < FRAME_MOST; i++)
@@ -26,7 +26,7 @@ static uint8_t *put_frame(uint8_t *at, size_t number)
 
 static uint8_t *put_tick(uint8_t *at, size_t number)
 {
-    *at++ = 2;
+    *at++ = STREAM_TICK;
     for (size_t i = 1; i < RAKHUBOLE_STREAM_TICK_RECORD; i++)
         *at++ = (uint8_t)(number >> i);
     return at;

@@ -1,4 +1,4 @@
-/* The numbers that document 01 fixes for frames and records, for all C and
+/* The numbers that documents 01 and 02 fix for frames and records, for all C and
  * Python code here; those of rows stand in include/rakhubole.h. It has enums of
  * plain numbers alone, since tools/c_names.py reads them too. */
 #ifndef FORMAT_H
@@ -62,5 +62,10 @@ enum {
     LAYOUT_SIZE = 38
 };
 enum { LAYOUT_PRNS = 16 };
+
+/* The records of an adapter's stream: their kinds, and where the fields of a
+ * frame's stand; their sizes are in include/rakhubole.h. */
+enum { STREAM_FRAME = 1, STREAM_TICK = 2 };
+enum { STREAM_FIRST_LENGTH = 1, STREAM_SECOND_LENGTH = 2, STREAM_RUNS = 3 };
 
 #endif
