@@ -73,8 +73,8 @@ void seek_layout(struct feed *feed, const struct draft *supplement, struct draft
 void draft_report_supplement(struct feed *feed, uint8_t flags, struct draft *supplement,
                              struct draft *first);
 
-/* Each target turns the feed into the runs of its call and answers the length
- * of the output that is lent. */
+/* Each target of one call turns the feed into the runs of that call and answers
+ * the length of the output that is lent. */
 extern const enum call target_call;
 size_t draft_runs(struct feed *feed, struct draft runs[MOST_RUNS]);
 

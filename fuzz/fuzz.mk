@@ -8,8 +8,9 @@ CLANG := clang
 SECONDS := 60
 FAULTY_REPORTS := report iso_report
 
-FUZZ_SOURCES := $(addprefix fuzz/,target.c draft.c supplement.c lent.c classes.c judge.c) bench/calls.c $(DECODER_SOURCES)
-FUZZ_NEEDS := $(FUZZ_SOURCES) bench/archive.c $(wildcard fuzz/*.h bench/*.h) host/format.h $(BENCH)/sae_rows.h include/rakhubole.h $(JUDGE) archive
+FUZZ_SOURCES := $(addprefix fuzz/,judged.c draft.c supplement.c lent.c classes.c judge.c) bench/calls.c $(DECODER_SOURCES)
+TARGET_SOURCES = fuzz/$(1).c fuzz/one_call.c $(FUZZ_SOURCES)
+FUZZ_NEEDS := $(FUZZ_SOURCES) fuzz/one_call.c bench/archive.c $(wildcard fuzz/*.h bench/*.h) host/format.h $(BENCH)/sae_rows.h include/rakhubole.h $(JUDGE) archive
 FUZZ_CFLAGS := $(BENCH_CFLAGS) -Ifuzz -g -fno-sanitize-recover=all
 JUDGE_LIBRARIES := $(JUDGE) -lpthread -ldl -lm
 FUZZ_LIBRARIES := bench/archive.c $(ARCHIVE) $(JUDGE_LIBRARIES)
@@ -23,11 +24,11 @@ judge: ## build the second program as a static library with the calls of rakhubo
 
 $(FUZZ)/%-replay: fuzz/%.c fuzz/replay.c $(FUZZ_NEEDS)
 	@mkdir -p $(FUZZ)
-	$(CC) $(FUZZ_CFLAGS) -fsanitize=address,undefined $< fuzz/replay.c $(FUZZ_SOURCES) $(FUZZ_LIBRARIES) -o $@
+	$(CC) $(FUZZ_CFLAGS) -fsanitize=address,undefined $(call TARGET_SOURCES,$*) fuzz/replay.c $(FUZZ_LIBRARIES) -o $@
 
 $(FUZZ)/%-fuzz: fuzz/%.c fuzz/fuzzer_counts.c $(FUZZ_NEEDS)
 	@mkdir -p $(FUZZ)
-	$(CLANG) $(FUZZ_CFLAGS) -fsanitize=fuzzer,address,undefined $< fuzz/fuzzer_counts.c $(FUZZ_SOURCES) $(FUZZ_LIBRARIES) -o $@
+	$(CLANG) $(FUZZ_CFLAGS) -fsanitize=fuzzer,address,undefined $(call TARGET_SOURCES,$*) fuzz/fuzzer_counts.c $(FUZZ_LIBRARIES) -o $@
 
 checks: fuzz-replay fuzz-faults
 
@@ -36,7 +37,7 @@ fuzz-replay: $(FUZZ_CALLS:%=$(FUZZ)/%-replay) ## run the committed fuzz inputs t
 
 $(FUZZ)/faulty-%-replay: fuzz/%.c fuzz/faulty.c fuzz/replay.c $(FUZZ_NEEDS)
 	@mkdir -p $(FUZZ)
-	$(CC) $(FUZZ_CFLAGS) -fsanitize=address,undefined $< fuzz/faulty.c fuzz/replay.c $(FUZZ_SOURCES) $(JUDGE_LIBRARIES) -o $@
+	$(CC) $(FUZZ_CFLAGS) -fsanitize=address,undefined $(call TARGET_SOURCES,$*) fuzz/faulty.c fuzz/replay.c $(JUDGE_LIBRARIES) -o $@
 
 # Without a fault the replay of a call passes, with each of these it does not: call, faults.
 define SEE_FAULTS

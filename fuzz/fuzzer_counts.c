@@ -1,12 +1,11 @@
 /* Shows the classes that a run of libFuzzer met, when it ends. */
-#include "classes.h"
-#include "draft.h"
+#include "target.h"
 
 #include <stdlib.h>
 
 static void show(void)
 {
-    show_classes(target_call);
+    show_target();
 }
 
 int LLVMFuzzerInitialize(int *count, char ***words);

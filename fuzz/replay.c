@@ -1,8 +1,6 @@
 /* Runs the target on every file of a folder: replay FOLDER. */
 #define _DEFAULT_SOURCE
 
-#include "classes.h"
-#include "draft.h"
 #include "target.h"
 
 #include <dirent.h>
@@ -46,5 +44,5 @@ int main(int count, char **words)
         free(entries[i]);
     }
     free(entries);
-    return show_classes(target_call) && all ? 0 : 1;
+    return show_target() && all ? 0 : 1;
 }

@@ -2,13 +2,15 @@
 #ifndef TARGET_H
 #define TARGET_H
 
+#include <stdbool.h>
 #include <stddef.h>
 #include <stdint.h>
 
-/* Makes a request of the bytes, has it answered by the archive in each
- * placement of memory, and by the decoder written by hand, and stops the
- * program if one of them answers or leaves memory otherwise than the second
- * program. */
+/* Makes requests of the bytes and has them judged. */
 int LLVMFuzzerTestOneInput(const uint8_t *bytes, size_t size);
+
+/* Prints the classes of the calls that were made and answers whether none of them
+ * is empty. */
+bool show_target(void);
 
 #endif

@@ -1,16 +1,12 @@
-/* One fuzz input: the request that it makes, judged. */
-#include "target.h"
+#include "judged.h"
 
 #include "classes.h"
-#include "draft.h"
 #include "judge.h"
 #include "lent.h"
 
 #include <stdio.h>
 #include <stdlib.h>
 
-/* The longest output that a target lends. */
-#define MOST_OUT 1024
 /* The decoder written by hand takes long over a long supplement. It runs along
  * because libFuzzer sees its branches, and not those of the archive. */
 #define MOST_FOR_DECODER 2048
@@ -42,9 +38,9 @@ static void stop(const char *what, const struct calls *calls, const struct reque
 }
 
 /* Lends everything in that placement, makes the call and compares the answer
- * and all memory; `out` is what the output holds afterwards. */
+ * and all memory; the request's output is what that of the call has to be. */
 static void compare(const struct calls *calls, enum placement placement,
-                    const struct request *request, uint64_t expected, const uint8_t *out)
+                    const struct request *request, uint64_t expected)
 {
     uint8_t before[MOST_OUT];
     struct lent lent[MOST_LENT];
@@ -60,7 +56,7 @@ static void compare(const struct calls *calls, enum placement placement,
     uint64_t given = answer_of(calls, &mine);
     if (given != expected)
         stop("another answer", calls, request, expected, given);
-    if (!is_as_expected(&lent[MOST_RUNS], out))
+    if (!is_as_expected(&lent[MOST_RUNS], request->out))
         stop("other output, or a byte beside it touched", calls, request, expected, given);
     for (size_t i = 0; i < MOST_RUNS; i++)
         if (!is_as_expected(&lent[i], request->in[i].bytes))
@@ -69,24 +65,15 @@ static void compare(const struct calls *calls, enum placement placement,
         take_back(&lent[i]);
 }
 
-int LLVMFuzzerTestOneInput(const uint8_t *bytes, size_t size)
+uint64_t judged_answer(const struct request *request)
 {
-    static struct draft runs[MOST_RUNS];
-    static uint8_t out[MOST_OUT];
-    struct feed feed = {bytes, size};
-    struct request request = {.call = target_call, .out = out};
-    for (size_t i = 0; i < MOST_RUNS; i++)
-        runs[i].length = 0;
-    request.out_length = draft_runs(&feed, runs);
-    for (size_t i = 0; i < MOST_RUNS; i++)
-        request.in[i] = (struct run){runs[i].bytes, runs[i].length};
-    for (size_t i = 0; i < MOST_OUT; i++)
-        out[i] = filling(i);
-    uint64_t expected = answer_of(&judge_calls, &request);
+    for (size_t i = 0; i < request->out_length; i++)
+        request->out[i] = filling(i);
+    uint64_t expected = answer_of(&judge_calls, request);
     for (int placement = 0; placement < PLACEMENTS; placement++)
-        compare(&archive_calls, (enum placement)placement, &request, expected, out);
-    if (request.in[0].length <= MOST_FOR_DECODER)
-        compare(&decoder_calls, IN_BLOCK, &request, expected, out);
-    count_classes(&request, expected, out);
-    return 0;
+        compare(&archive_calls, (enum placement)placement, request, expected);
+    if (request->in[0].length <= MOST_FOR_DECODER)
+        compare(&decoder_calls, IN_BLOCK, request, expected);
+    count_classes(request, expected, request->out);
+    return expected;
 }
