@@ -1,5 +1,6 @@
 #include "classes.h"
 
+#include "decoder_stream.h"
 #include "draft.h"
 #include "format.h"
 #include "judge.h"
@@ -7,7 +8,7 @@
 
 #include <stdio.h>
 
-/* Behind Unknown: of a report's room, then of its Numbers. */
+/* Behind Unknown: of a report's room, then of its Numbers; then of a stream. */
 enum word {
     REFUSED,
     SUM_BEFORE,
@@ -22,11 +23,16 @@ enum word {
     DIVISOR,
     DIVISOR_OVER,
     END_OF_FIELD,
+    FRAMES_TOLD,
+    TOLD_WITHIN,
+    STATE,
+    PLACE_BACK,
     WORDS
 };
 static const char *const words[WORDS] = {
     "refused", "3 before", "kind", "verdict", "row", "Unknown", "room left", "room short by",
     "whole number under", "its bits over", "divisor", "divisor over", "end of a field",
+    "frames told", "told from within a record", "state", "place back at",
 };
 
 /* The ends of a Number's fields. The least whole number is that of an SNM, the
@@ -34,6 +40,18 @@ static const char *const words[WORDS] = {
 enum { LEAST_WHOLE = 1, MOST_WHOLE, MOST_DIVISOR };
 #define LEAST_WHOLE_SIZE (UINT64_C(0xFFFF) * 0x80000000u + 0x80000000u)
 #define MOST_WHOLE_SIZE (UINT64_C(0xFFFF) * 0xFFFFFFFFu + 0x7FFFFFFFu)
+
+/* States; no call makes the last five. */
+enum {
+    BETWEEN_RECORDS = 1,
+    WITHIN_RECORD,
+    STOPPED,
+    STOPPED_WITHIN_RECORD,
+    STOPPED_OVER_ONE,
+    COUNT_OVER_MOST,
+    HELD_NO_BEGINNING,
+    NOT_ZERO_BEHIND_HELD
+};
 
 /* Every refusal, kind and reason is below this. */
 #define NUMBERS 64
@@ -69,6 +87,15 @@ enum { LEAST_WHOLE = 1, MOST_WHOLE, MOST_DIVISOR };
     [WHOLE_BITS_OVER] = ONE(WORD_BITS), [DIVISOR] = ONE(1), [DIVISOR_OVER] = ONE(1),             \
     [END_OF_FIELD] = SPAN(LEAST_WHOLE, MOST_DIVISOR)
 
+#define STATES SPAN(BETWEEN_RECORDS, NOT_ZERO_BEHIND_HELD)
+/* What a record gives that was begun in an earlier part: a frame, or 61. */
+#define WITHIN_FRAME 1
+#define READ_STREAM                                                                              \
+    [REFUSED] = SPAN(RAKHUBOLE_STREAM_KIND_UNKNOWN, RAKHUBOLE_STREAM_RECORD_WRONG) |             \
+                ONE(RAKHUBOLE_OUT_TOO_SHORT),                                                    \
+    [FRAMES_TOLD] = SPAN(0, 1), [ROOM_LEFT] = ONE(0), [ROOM_SHORT] = ONE(1),                     \
+    [TOLD_WITHIN] = ONE(WITHIN_FRAME) | ONE(RAKHUBOLE_STREAM_RECORD_WRONG)
+
 /* The numbers that the inputs of a call must reach. */
 static const uint64_t wanted[][WORDS] = {
     [CALL_READ] = {[REFUSED] = FRAME_REFUSALS, [KIND] = SPAN(0, 3)},
@@ -88,6 +115,10 @@ static const uint64_t wanted[][WORDS] = {
                          [ROW] = ROWS,
                          [UNKNOWN] = UNKNOWNS & ~ONE(RAKHUBOLE_UNKNOWN_RESPONSE),
                          ROOMS_AND_NUMBERS},
+    [CALL_STREAM_READ] = {READ_STREAM, [STATE] = STATES},
+    [CALL_STREAM_ADVANCE] = {[STATE] = STATES, [PLACE_BACK] = ONE(0)},
+    [CALL_STREAM_END] = {[REFUSED] = ONE(RAKHUBOLE_STREAM_CUT), [STATE] = STATES},
+    [CALL_STREAM_PLACE] = {[STATE] = STATES},
 };
 
 struct tally {
@@ -157,12 +188,12 @@ static void count_rows(struct tally *tally, const uint8_t *out, size_t length)
     }
 }
 
-/* A report that one byte more would have had room for. */
+/* A report, or the frame of a stream, that one byte more would have had room for. */
 static bool is_one_short(const struct request *request, unsigned refusal)
 {
     uint8_t rows[RAKHUBOLE_ROWS_MOST];
     struct request longer = *request;
-    if (refusal != RAKHUBOLE_OUT_TOO_SHORT || !is_report(request->call))
+    if (refusal != RAKHUBOLE_OUT_TOO_SHORT || is_write(request->call))
         return false;
     longer.out = rows;
     longer.out_length++;
@@ -176,6 +207,75 @@ static void count_report(struct tally *tally, const struct request *request, uin
     if (length == request->out_length)
         tally->counts[ROOM_LEFT][0]++;
     count_rows(tally, out, length);
+}
+
+/* Whether the state holds the beginning of a record. */
+static bool is_within_record(const uint8_t *state)
+{
+    size_t count = state[STATE_COUNT] < STATE_HELD_MOST ? state[STATE_COUNT] : STATE_HELD_MOST;
+    return count > 0 && count < stream_record_size(state[STATE_HELD]);
+}
+
+static bool is_zero_behind_held(const uint8_t *state)
+{
+    for (size_t i = STATE_HELD + (size_t)state[STATE_COUNT]; i < RAKHUBOLE_STREAM_STATE; i++)
+        if (state[i] != 0)
+            return false;
+    return true;
+}
+
+/* In branches too, each with a condition of its own: an if and its else may be
+ * compiled to one. */
+static void count_state(unsigned long *counts, const uint8_t *state)
+{
+    uint8_t stopped = state[STATE_STOPPED], count = state[STATE_COUNT];
+    bool is_within = is_within_record(state);
+    if (stopped == 0 && count == 0)
+        counts[BETWEEN_RECORDS]++;
+    if (stopped == 0 && is_within)
+        counts[WITHIN_RECORD]++;
+    if (stopped == 1 && count == 0)
+        counts[STOPPED]++;
+    if (stopped != 0 && is_within)
+        counts[STOPPED_WITHIN_RECORD]++;
+    if (stopped > 1)
+        counts[STOPPED_OVER_ONE]++;
+    if (count > STATE_HELD_MOST)
+        counts[COUNT_OVER_MOST]++;
+    if (count > 0 && !is_within)
+        counts[HELD_NO_BEGINNING]++;
+    if (!is_zero_behind_held(state))
+        counts[NOT_ZERO_BEHIND_HELD]++;
+}
+
+static void count_told(struct tally *tally, const struct request *request, uint64_t answer)
+{
+    size_t length = RAKHUBOLE_STREAM_FIRST(answer) + RAKHUBOLE_STREAM_SECOND(answer);
+    bool has_frame = RAKHUBOLE_STREAM_HAS_FRAME(answer);
+    if (has_frame)
+        tally->counts[FRAMES_TOLD][1]++;
+    else if (answer == 0)
+        tally->counts[FRAMES_TOLD][0]++;
+    if (has_frame && length == request->out_length)
+        tally->counts[ROOM_LEFT][0]++;
+    if (!is_within_record(request->in[0].bytes))
+        return;
+    if (has_frame)
+        tally->counts[TOLD_WITHIN][WITHIN_FRAME]++;
+    if (answer == RAKHUBOLE_STREAM_RECORD_WRONG)
+        tally->counts[TOLD_WITHIN][RAKHUBOLE_STREAM_RECORD_WRONG]++;
+}
+
+static void count_stream(struct tally *tally, const struct request *request, uint64_t answer,
+                         const uint8_t *out)
+{
+    const uint8_t *state = request->in[0].bytes;
+    count_state(tally->counts[STATE], state);
+    if (request->call == CALL_STREAM_READ)
+        count_told(tally, request, answer);
+    if (request->call == CALL_STREAM_ADVANCE &&
+        number_of(out, out + STATE_STOPPED) < number_of(state, state + STATE_STOPPED))
+        tally->counts[PLACE_BACK][0]++;
 }
 
 /* A message with a wrong sum whose first byte would be refused too. It is a
@@ -196,7 +296,9 @@ void count_classes(const struct request *request, uint64_t answer, const uint8_t
     tally->inputs++;
     for (size_t i = 0; i < runs_of(request->call); i++)
         tally->null_runs += request->in[i].length == 0;
-    unsigned refusal = RAKHUBOLE_REFUSAL(answer);
+    unsigned refusal = refusal_of(request->call, answer);
+    if (request->call >= CALL_STREAM_READ)
+        count_stream(tally, request, answer, out);
     if (is_sum_first(request, refusal))
         tally->counts[SUM_BEFORE][RAKHUBOLE_FIRST_BYTE_WRONG]++;
     if (is_one_short(request, refusal))
@@ -215,7 +317,9 @@ void count_classes(const struct request *request, uint64_t answer, const uint8_t
 bool show_classes(enum call call)
 {
     const struct tally *tally = &tallies[call];
-    bool all = tally->accepted > 0 && tally->null_runs > 0;
+    /* A state is no empty run. */
+    bool has_other_runs = call != CALL_STREAM_END && call != CALL_STREAM_PLACE;
+    bool all = tally->accepted > 0 && (tally->null_runs > 0 || !has_other_runs);
     printf("%s: %lu inputs; accepted: %lu, with an empty run: %lu", call_names[call],
            tally->inputs, tally->accepted, tally->null_runs);
     for (int word = 0; word < WORDS; word++) {

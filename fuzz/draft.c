@@ -1,8 +1,11 @@
 #include "draft.h"
 
+#include "decoder_stream.h"
 #include "format.h"
 #include "judge.h"
 #include "rakhubole.h"
+
+#include <string.h>
 
 /* Bytes that may be lent behind the longest report. */
 #define SPARE_ROOM 16
@@ -88,4 +91,26 @@ void seal_message(uint8_t flags, struct draft *message)
     fit_first_byte(flags, message);
     if (flags & SEALED)
         seal(message, judge_sum);
+}
+
+/* Gives a frame's record lengths that fit and zeros behind both runs. */
+static void mend_frame(uint8_t *record)
+{
+    uint8_t *first = &record[STREAM_FIRST_LENGTH], *second = &record[STREAM_SECOND_LENGTH];
+    *first %= FRAME_MOST + 1;
+    *second %= FRAME_MOST + 1 - *first;
+    size_t used = (size_t)*first + *second;
+    memset(record + STREAM_RUNS + used, 0, FRAME_MOST - used);
+}
+
+void mend_stream(struct draft *stream)
+{
+    for (size_t at = 0, size; at < stream->length; at += size) {
+        uint8_t *record = stream->bytes + at, kind = record[0];
+        if (kind < 0xF8)
+            record[0] = kind % 2 ? STREAM_FRAME : STREAM_TICK;
+        size = stream_record_size(record[0]);
+        if (kind < 0x80 && record[0] == STREAM_FRAME && size <= stream->length - at)
+            mend_frame(record);
+    }
 }

@@ -53,6 +53,10 @@ uint8_t fitting_first_byte(uint8_t first_byte);
 void seal_message(uint8_t flags, struct draft *message);
 void fit_first_byte(uint8_t flags, struct draft *header);
 
+/* Makes most records of a stream ones without fault. Left as it is: a kind byte of
+ * F8h or more, and what stands behind one of 80h or more. */
+void mend_stream(struct draft *stream);
+
 /* Of a writer: the header has the length that the feed says, fitting or not. */
 #define ANY_HEADER_LENGTH 1
 

@@ -1,15 +1,17 @@
-# Fuzz targets, one for each exported call, judged by the second program. `make fuzz SECONDS=600` runs each for that time;
-# `make fuzz-replay` runs the committed inputs through the same code and needs no libFuzzer.
+# Fuzz targets, one for each exported call and one for those of the stream, judged by the second program.
+# `make fuzz SECONDS=600` runs each for that time; `make fuzz-replay` runs the committed inputs through the same code and
+# needs no libFuzzer.
 
 FUZZ := build/fuzz
-FUZZ_CALLS := read write check report iso_read iso_write iso_report
+FUZZ_CALLS := read write check report iso_read iso_write iso_report stream
 JUDGE := build/judge/release/libjudge.a
 CLANG := clang
 SECONDS := 60
 FAULTY_REPORTS := report iso_report
 
 FUZZ_SOURCES := $(addprefix fuzz/,judged.c draft.c supplement.c lent.c classes.c judge.c) bench/calls.c $(DECODER_SOURCES)
-TARGET_SOURCES = fuzz/$(1).c fuzz/one_call.c $(FUZZ_SOURCES)
+# An input of the stream's target makes many calls, one of any other target a single one.
+TARGET_SOURCES = fuzz/$(1).c $(if $(filter stream,$(1)),,fuzz/one_call.c) $(FUZZ_SOURCES)
 FUZZ_NEEDS := $(FUZZ_SOURCES) fuzz/one_call.c bench/archive.c $(wildcard fuzz/*.h bench/*.h) host/format.h $(BENCH)/sae_rows.h include/rakhubole.h $(JUDGE) archive
 FUZZ_CFLAGS := $(BENCH_CFLAGS) -Ifuzz -g -fno-sanitize-recover=all
 JUDGE_LIBRARIES := $(JUDGE) -lpthread -ldl -lm
