@@ -19,10 +19,15 @@ ANY_HEADER_LENGTH = 1
 FITTED = 2
 SEALED = 3                        # on ISO 9141-2 fitted too
 SEALED_AND_MENDED = 7
+MENDED = 4
+ANY_STATE = 1
 RAW_BYTES = 4                     # the other steps are the kinds of records
 RECORD_SIZES = {FORMAT.RECORD_SLOT: FORMAT.SLOT_SIZE, FORMAT.RECORD_PRN: FORMAT.PRN_SIZE,
                 FORMAT.RECORD_LAYOUT: FORMAT.LAYOUT_SIZE}
 END = b"\0"
+# Of a stream: one cut, the length of a part and the room lent; 240 is a part of 64 bytes.
+STEP_CUT = [1, 240]
+BYTE_BY_BYTE = [1, 1, FORMAT.FRAME_MOST]
 # By the letter of a line: the target; of a frame case also the runs of its call, and the flags of
 # the inputs that it gives.
 FRAME_CALLS = {"R": ("read", 2, [0, SEALED]), "W": ("write", 3, [ANY_HEADER_LENGTH]),
@@ -100,10 +105,20 @@ def report_seeds(line):
                                bytes([SEALED_AND_MENDED]) + frame + record_steps(supplement)]
 
 
+def stream_seeds(line):
+    """The step as it is; from a fresh state also with its records mended, and byte by byte."""
+    state, length = bytes.fromhex(line[2:50]), int(line[51:53], 16)
+    part, lent = bytes.fromhex(line[54:54 + 2 * length]), int(line[183:185], 16)
+    step = bytes(STEP_CUT + [min(lent, MOST_LENGTH)]) + part
+    if any(state):
+        return "stream", [bytes([ANY_STATE]) + state + step]
+    return "stream", [END + step, bytes([MENDED]) + step, END + bytes(BYTE_BY_BYTE) + part]
+
+
 def main():
     crates, folder = map(pathlib.Path, sys.argv[1:])
     makers = {"frame_vectors": frame_seeds, "supplement_vectors": supplement_seeds,
-              "report_vectors": report_seeds}
+              "report_vectors": report_seeds, "stream_vectors": stream_seeds}
     for name, make in makers.items():
         for number, line in enumerate((crates / name / "stdin").read_text().splitlines()):
             try:
