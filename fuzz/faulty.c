@@ -1,12 +1,16 @@
-/* Stands in for the archive with a fault in its report, which the replay has to
- * see: FAULT in the environment says which, 0 for none. */
+/* Stands in for the archive with a fault in its report or in its calls of the
+ * stream, which the replay has to see: FAULT in the environment says which, 0 for
+ * none. */
 #include "calls.h"
 #include "classes.h"
 #include "decoder.h"
+#include "decoder_stream.h"
 #include "draft.h"
+#include "format.h"
 #include "rakhubole.h"
 
 #include <stdlib.h>
+#include <string.h>
 
 enum fault {
     NO_FAULT,
@@ -23,7 +27,17 @@ enum fault {
     SIGN_LOST,
     /* of a report on ISO 9141-2 */
     FIRST_BYTE_BEFORE_SUM,
-    WRITTEN_BEHIND_ROWS
+    WRITTEN_BEHIND_ROWS,
+    /* of a stream */
+    WRONG_BEFORE_WHOLE,
+    TICK_A_BYTE_SHORT,
+    READ_ON_AFTER_UNKNOWN,
+    STATE_CHANGED_BY_READ,
+    READ_BEHIND_STATE,
+    WRITTEN_BEHIND_RUNS,
+    TAKEN_A_BYTE_MORE,
+    HELD_BYTE_LOST,
+    CUT_THOUGH_STOPPED
 };
 
 static enum fault fault(void)
@@ -125,8 +139,79 @@ static uint64_t faulty_iso_report(const uint8_t *supplement, size_t supplement_l
     return answer;
 }
 
+/* A frame's record is begun of which the lengths alone say that it is wrong. */
+static bool begins_wrong(const uint8_t *state, const uint8_t *part, size_t part_length)
+{
+    uint8_t after[RAKHUBOLE_STREAM_STATE];
+    memcpy(after, state, sizeof after);
+    decoder_stream_advance(after, part, part_length);
+    const uint8_t *held = after + STATE_HELD;
+    return after[STATE_COUNT] >= STREAM_RUNS && held[0] == STREAM_FRAME &&
+           held[STREAM_FIRST_LENGTH] + held[STREAM_SECOND_LENGTH] > FRAME_MOST;
+}
+
+/* Reads over a tick at the start of a part as if it had a byte less, or in a state
+ * that has stopped, where the fault says so. */
+static uint64_t spoiled_stream_read(const uint8_t *state, const uint8_t *part, size_t part_length,
+                                    uint8_t *out, size_t out_length)
+{
+    uint8_t mine[RAKHUBOLE_STREAM_STATE];
+    size_t tick = RAKHUBOLE_STREAM_TICK_RECORD - 1;
+    memcpy(mine, state, sizeof mine);
+    if (fault() == READ_ON_AFTER_UNKNOWN)
+        mine[STATE_STOPPED] = 0;
+    if (fault() == TICK_A_BYTE_SHORT && state[STATE_COUNT] == 0 && part_length > tick &&
+        part[0] == STREAM_TICK)
+        return decoder_stream_read(mine, part + tick, part_length - tick, out, out_length);
+    return decoder_stream_read(mine, part, part_length, out, out_length);
+}
+
+static uint64_t faulty_stream_read(const uint8_t *state, const uint8_t *part, size_t part_length,
+                                   uint8_t *out, size_t out_length)
+{
+    uint64_t answer = spoiled_stream_read(state, part, part_length, out, out_length);
+    size_t runs = RAKHUBOLE_STREAM_FIRST(answer) + RAKHUBOLE_STREAM_SECOND(answer);
+    bool has_room = RAKHUBOLE_STREAM_HAS_FRAME(answer) && runs < out_length;
+    switch (fault()) {
+    case WRONG_BEFORE_WHOLE:
+        if (answer == 0 && begins_wrong(state, part, part_length))
+            return RAKHUBOLE_STREAM_RECORD_WRONG;
+        break;
+    case STATE_CHANGED_BY_READ: set_byte_of(state, RAKHUBOLE_STREAM_STATE, 0); break;
+    case READ_BEHIND_STATE:
+        byte_of(state, RAKHUBOLE_STREAM_STATE, RAKHUBOLE_STREAM_STATE);
+        break;
+    case WRITTEN_BEHIND_RUNS: set_byte_of(out, has_room, (ptrdiff_t)runs); break;
+    default: break;
+    }
+    return answer;
+}
+
+static uint64_t faulty_stream_advance(uint8_t *state, const uint8_t *part, size_t part_length)
+{
+    uint64_t taken = decoder_stream_advance(state, part, part_length);
+    switch (fault()) {
+    case TAKEN_A_BYTE_MORE: return taken + (taken > 0 && taken < part_length);
+    case HELD_BYTE_LOST:
+        if (state[STATE_COUNT] > 0)
+            state[STATE_HELD + --state[STATE_COUNT]] = 0;
+        break;
+    default: break;
+    }
+    return taken;
+}
+
+static uint64_t faulty_stream_end(const uint8_t *state)
+{
+    uint8_t mine[RAKHUBOLE_STREAM_STATE];
+    memcpy(mine, state, sizeof mine);
+    if (fault() == CUT_THOUGH_STOPPED)
+        mine[STATE_STOPPED] = 0;
+    return decoder_stream_end(mine);
+}
+
 const struct calls archive_calls = {
     "faulty", decoder_read, decoder_write, decoder_check, faulty_report,
     decoder_iso_read, decoder_iso_write, faulty_iso_report,
-    decoder_stream_read, decoder_stream_advance, decoder_stream_end, decoder_stream_place,
+    faulty_stream_read, faulty_stream_advance, faulty_stream_end, decoder_stream_place,
 };

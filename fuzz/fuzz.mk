@@ -7,7 +7,7 @@ FUZZ_CALLS := read write check report iso_read iso_write iso_report stream
 JUDGE := build/judge/release/libjudge.a
 CLANG := clang
 SECONDS := 60
-FAULTY_REPORTS := report iso_report
+FAULTY_CALLS := report iso_report stream
 
 FUZZ_SOURCES := $(addprefix fuzz/,judged.c draft.c supplement.c lent.c classes.c judge.c) bench/calls.c $(DECODER_SOURCES)
 # An input of the stream's target makes many calls, one of any other target a single one.
@@ -52,9 +52,10 @@ define SEE_FAULTS
 	done
 endef
 
-fuzz-faults: $(FAULTY_REPORTS:%=$(FUZZ)/faulty-%-replay) ## see that the replay finds each of thirteen faults put in on purpose
+fuzz-faults: $(FAULTY_CALLS:%=$(FUZZ)/faulty-%-replay) ## see that the replay finds each of twenty-two faults put in on purpose
 	$(call SEE_FAULTS,report,1 2 3 4 5 6 7 8 9 10 11)
 	$(call SEE_FAULTS,iso_report,12 13)
+	$(call SEE_FAULTS,stream,14 15 16 17 18 19 20 21 22)
 
 # New inputs stay in build/; one that fails is named there too.
 fuzz: $(FUZZ_CALLS:%=$(FUZZ)/%-fuzz) ## fuzz every call with libFuzzer, SECONDS=60 each (needs clang)
