@@ -5,11 +5,12 @@
  *
  * The cases are the committed vectors, each with several lengths of output, and
  * so many random ones from a fixed seed: mostly good frames under supplements
- * that have a layout for them, and near misses. Calls that the earlier archive
- * lacks are left out, their vectors counted. The first case that differs is
- * printed, and the status is then 1. */
+ * that have a layout for them, parts of mostly good streams, and near misses.
+ * Calls that the earlier archive lacks are left out, their vectors counted. The
+ * first case that differs is printed, and the status is then 1. */
 #include "calls.h"
 #include "classes.h"
+#include "decoder_stream.h"
 #include "draft.h"
 #include "format.h"
 #include "rakhubole.h"
@@ -24,6 +25,8 @@
 #define FRAME_FEED 64
 #define RECORDS_FEED 320
 #define LAYOUT_FEED 56
+#define STEP_FEED 96
+#define STEP_PART 64
 /* The message type whose response ends in a check byte. */
 #define CHECKED_TYPE 3
 
@@ -103,9 +106,19 @@ static uint64_t answer_in(struct arena *arena, const struct calls *calls,
     return answer_of(calls, &mine);
 }
 
+/* Whether the length of the output is the caller's choice. */
 static bool has_output(enum call call)
 {
-    return is_write(call) || is_report(call);
+    return is_write(call) || is_report(call) || call == CALL_STREAM_READ;
+}
+
+static size_t written_by(enum call call, uint64_t answer)
+{
+    if (is_write(call))
+        return RAKHUBOLE_WRITE_FIRST(answer) + RAKHUBOLE_WRITE_RESPONSE(answer);
+    if (is_report(call))
+        return RAKHUBOLE_ROWS_LENGTH(answer);
+    return RAKHUBOLE_STREAM_FIRST(answer) + RAKHUBOLE_STREAM_SECOND(answer);
 }
 
 /* The length of what the call gives if there is room; 0 if it is refused. */
@@ -115,11 +128,7 @@ static size_t result_length(const struct request *request)
     mine.out_length = MOST_OUT;
     lend_all(&mine);
     uint64_t answer = answer_in(&left[0], &before_calls, &mine);
-    if (RAKHUBOLE_REFUSAL(answer) != 0)
-        return 0;
-    return is_write(request->call)
-               ? RAKHUBOLE_WRITE_FIRST(answer) + RAKHUBOLE_WRITE_RESPONSE(answer)
-               : RAKHUBOLE_ROWS_LENGTH(answer);
+    return RAKHUBOLE_REFUSAL(answer) == 0 ? written_by(request->call, answer) : 0;
 }
 
 /* Both leave the same bytes, and all but the output as they were. */
@@ -323,6 +332,26 @@ static void draft_records(struct feed *feed, bool for_messages, struct draft *ru
     miss(feed, run);
 }
 
+/* A part of mostly good records, and the state that it meets: one that a call made
+ * of its first bytes, at any place, or any bytes. */
+static void draft_step(struct draft *state, struct draft *part)
+{
+    uint8_t bytes[STEP_FEED];
+    struct feed feed = {bytes, sizeof bytes};
+    fill_random(bytes, sizeof bytes);
+    put_run(state, &feed, RAKHUBOLE_STREAM_STATE);
+    put_run(part, &feed, STEP_PART);
+    mend_stream(part);
+    miss(&feed, part);
+    if (take_byte(&feed) % 4 == 0)
+        return;
+    memset(state->bytes + STATE_STOPPED, 0, RAKHUBOLE_STREAM_STATE - STATE_STOPPED);
+    size_t first = take_byte(&feed) % (STEP_PART / 2);
+    size_t taken = (size_t)decoder_calls.stream_advance(state->bytes, part->bytes, first);
+    part->length -= taken;
+    memmove(part->bytes, part->bytes + taken, part->length);
+}
+
 static void draft_request(enum call call, struct draft runs[MOST_RUNS])
 {
     uint8_t bytes[FRAME_FEED];
@@ -348,9 +377,11 @@ static void draft_request(enum call call, struct draft runs[MOST_RUNS])
         fit_first_byte(message_flags(&feed), &runs[0]);
         miss(&feed, &runs[0]);
         break;
-    default:
+    case CALL_ISO_REPORT:
         draft_records(&feed, true, &runs[0]);
         draft_message(&feed, &runs[0], &runs[1]);
+        break;
+    default: draft_step(&runs[0], &runs[1]);
     }
 }
 
@@ -376,6 +407,8 @@ static void try_random(enum call call, unsigned long number)
     draft_request(request.call, runs);
     for (size_t i = 0; i < MOST_RUNS; i++)
         request.in[i] = (struct run){runs[i].bytes, runs[i].length};
+    if (call >= CALL_STREAM_READ)
+        request = stream_request(call, runs[0].bytes, request.in[1], NULL, 0);
     if (has_output(request.call))
         request.out_length = random_room(&request);
     snprintf(where, sizeof where, "random case %lu", number);
