@@ -8,7 +8,7 @@
 
 struct bench_case {
     const char *name;
-    /* one call; a reading of a stream is the first step of all of it, in such parts */
+    /* of a stream the first call; all of it is fed, in parts as long as this one's */
     struct request request;
     /* the most that the archive's time may be of the other's; 0 for none */
     double target;
