@@ -151,7 +151,7 @@ static void put_row(const struct row *row, const struct label *label)
 /* The start of each object. */
 static void put_entry(const struct entry *entry)
 {
-    printf("{\"line\":%zu", entry->line);
+    printf("{\"%s\":%" PRIu64, entry->unit, entry->place);
     put_text("bus", entry->bus->word);
     put_hex("first", entry->runs.first.at, entry->runs.first.count);
     put_hex("response", entry->runs.response.at, entry->runs.response.count);
@@ -197,8 +197,8 @@ static void json_damaged(const struct entry *entry)
 /* Objects are for frames; the rest is said on the error output. */
 static void json_passed(const struct entry *entry)
 {
-    complain("line %zu passed over: \"%.*s\", %s", entry->line, (int)entry->length, entry->text,
-             entry->words);
+    complain("%s %" PRIu64 " passed over: \"%.*s\", %s", entry->unit, entry->place,
+             (int)entry->length, entry->text, entry->words);
 }
 
 static void json_end(const struct tally *tally)

@@ -103,8 +103,8 @@ void log_next(struct lines *lines, const struct bus *bus, struct entry *entry)
     for (;;) {
         enum line_answer answer = lines_next(lines);
         drop_zeros(lines);
-        *entry = (struct entry){.bus = bus, .line = lines->number, .text = lines->text,
-                                .length = lines->length};
+        *entry = (struct entry){.bus = bus, .unit = "line", .place = lines->number,
+                                .text = lines->text, .length = lines->length};
         if (answer != LINE_READ) {
             read_end(entry, answer);
             return;

@@ -3,7 +3,7 @@
 #ifndef OUTPUT_H
 #define OUTPUT_H
 
-#include "log.h"
+#include "entry.h"
 #include "reading.h"
 
 /* How many lines of a log were what. */

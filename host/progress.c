@@ -2,6 +2,7 @@
 
 #include "terminal.h"
 
+#include <inttypes.h>
 #include <stdio.h>
 
 static const long STEP_MILLISECONDS = 200;
@@ -14,7 +15,8 @@ void progress_start(struct progress *progress, unsigned long long size)
     clock_gettime(CLOCK_MONOTONIC, &progress->last);
 }
 
-void progress_step(struct progress *progress, size_t line, unsigned long long place)
+void progress_step(struct progress *progress, const struct entry *entry,
+                   unsigned long long place)
 {
     struct timespec now;
     if (!progress->is_wanted)
@@ -26,7 +28,7 @@ void progress_step(struct progress *progress, size_t line, unsigned long long pl
         return;
     progress->last = now;
     progress->is_shown = true;
-    fprintf(stderr, "\r\x1B[Kline %zu", line);
+    fprintf(stderr, "\r\x1B[K%s %" PRIu64, entry->unit, entry->place);
     if (progress->size > 0 && place <= progress->size)
         fprintf(stderr, ", %llu %%", 100 * place / progress->size);
     fflush(stderr);

@@ -2,8 +2,9 @@
 #ifndef PROGRESS_H
 #define PROGRESS_H
 
+#include "entry.h"
+
 #include <stdbool.h>
-#include <stddef.h>
 #include <time.h>
 
 struct progress {
@@ -14,8 +15,9 @@ struct progress {
 
 void progress_start(struct progress *progress, unsigned long long size);
 
-/* Shows the place in the log, some times a second. */
-void progress_step(struct progress *progress, size_t line, unsigned long long place);
+/* Shows the entry's place and how much of the log is read, some times a second. */
+void progress_step(struct progress *progress, const struct entry *entry,
+                   unsigned long long place);
 
 /* Takes away what was shown. */
 void progress_end(struct progress *progress);

@@ -9,6 +9,7 @@
 #include "reading.h"
 #include "words.h"
 
+#include <inttypes.h>
 #include <string.h>
 
 struct session {
@@ -18,20 +19,6 @@ struct session {
     const char *path; /* of the log, as messages name it */
     struct tally tally;
 };
-
-static int complain_of_line(const struct session *session, const struct entry *entry)
-{
-    enum { SHOWN = 60 };
-    if (entry->kind == ENTRY_UNREADABLE) {
-        complain("%s: %s", session->path, entry->words);
-        return STATUS_USAGE;
-    }
-    int shown = entry->length < SHOWN ? (int)entry->length : SHOWN;
-    complain("%s line %zu: neither a frame nor a line of an adapter (%s): \"%.*s%s\"",
-             session->path, entry->line, entry->words, shown, entry->text,
-             entry->length > SHOWN ? "..." : "");
-    return STATUS_REFUSED;
-}
 
 static void count_verdict(struct tally *tally, unsigned verdict)
 {
@@ -45,8 +32,8 @@ static int show_frame(struct session *session, const struct entry *entry)
     struct reading reading;
     int refusal = reading_make(&reading, entry->bus, session->supplement, &entry->runs);
     if (refusal < 0) {
-        complain("%s line %zu: the rows of the library are not as its papers say", session->path,
-                 entry->line);
+        complain("%s %s %" PRIu64 ": the rows of the library are not as its papers say",
+                 session->path, entry->unit, entry->place);
         return STATUS_USAGE;
     }
     if (refusal > 0) {
@@ -76,15 +63,8 @@ static int show_entry(struct session *session, const struct entry *entry)
         session->output->passed(entry);
         return STATUS_DONE;
     default:
-        return complain_of_line(session, entry);
+        return complain_of_entry(session->path, entry);
     }
-}
-
-/* Whether nothing can follow in the log. */
-static bool is_last(const struct entry *entry)
-{
-    return entry->kind == ENTRY_NONE || entry->kind == ENTRY_FAULT ||
-           entry->kind == ENTRY_UNREADABLE;
 }
 
 /* Whether every line of the log can be read, before anything is shown. */
@@ -95,9 +75,9 @@ static int try_log(const struct session *session, FILE *file)
     lines_start(&lines, file);
     do
         log_next(&lines, session->bus, &entry);
-    while (!is_last(&entry));
+    while (!entry_is_last(&entry));
     rewind(file);
-    return entry.kind == ENTRY_NONE ? STATUS_DONE : complain_of_line(session, &entry);
+    return entry.kind == ENTRY_NONE ? STATUS_DONE : complain_of_entry(session->path, &entry);
 }
 
 /* Shows the log line by line, as it comes. */
@@ -113,7 +93,7 @@ static int show_log(struct session *session, FILE *file, unsigned long long size
         log_next(&lines, session->bus, &entry);
         if (entry.kind == ENTRY_NONE)
             break;
-        progress_step(&progress, entry.line, lines.place);
+        progress_step(&progress, &entry, lines.place);
         if (entry.kind != ENTRY_FRAME)
             progress_end(&progress); /* a message may come */
         status = show_entry(session, &entry);

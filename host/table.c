@@ -195,9 +195,14 @@ static void put_response(const struct entry *entry, const struct reading *readin
     printf("%s\n", color_off(line_color(row)));
 }
 
+static void put_place(const struct entry *entry)
+{
+    printf("%s %" PRIu64, entry->unit, entry->place);
+}
+
 static void put_entry(const struct entry *entry)
 {
-    printf("line %zu", entry->line);
+    put_place(entry);
     if (entry->runs.first.count + entry->runs.response.count)
         fputs(": ", stdout);
     put_runs(stdout, entry->runs.first.at, entry->runs.first.count, entry->runs.response.at,
@@ -244,14 +249,16 @@ static void put_saying(const struct entry *entry)
 
 static void table_damaged(const struct entry *entry)
 {
-    printf("line %zu%s", entry->line, color_on(COLOR_RED));
+    put_place(entry);
+    fputs(color_on(COLOR_RED), stdout);
     put_saying(entry);
     printf("%s\n", color_off(COLOR_RED));
 }
 
 static void table_passed(const struct entry *entry)
 {
-    printf("line %zu passed over", entry->line);
+    put_place(entry);
+    fputs(" passed over", stdout);
     put_saying(entry);
     putchar('\n');
 }
