@@ -30,6 +30,11 @@ const char *refusal_words(unsigned refusal)
         return "the answer was cut short: this message needs data and a check byte";
     case RAKHUBOLE_RESPONSE_TOO_MANY:
         return "more than one module answered, or one chatters: one byte is allowed";
+    case RAKHUBOLE_STREAM_KIND_UNKNOWN:
+        return "neither a frame nor a tick begins here: nothing from here on is read";
+    case RAKHUBOLE_STREAM_RECORD_WRONG:
+        return "a damaged record: its lengths are over 12 together, or an unused byte is not zero";
+    case RAKHUBOLE_STREAM_CUT: return "the stream ended inside a record: the rest did not come";
     default: return "a refusal without words";
     }
 }
