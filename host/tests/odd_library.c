@@ -1,5 +1,6 @@
 /* Stands for the library in one test: answers that it never gives, so that what
- * the tool does with them is seen. The first data byte chooses the answer. */
+ * the tool does with them is seen. The first data byte chooses the answer, and
+ * the first byte of a part those of a stream. */
 #include "rakhubole.h"
 
 #include <string.h>
@@ -110,4 +111,66 @@ uint64_t rakhubole_iso9141_report(const uint8_t *supplement, size_t supplement_l
 {
     return rakhubole_j1850_report(supplement, supplement_length, run, run_length, NULL, 0, out,
                                   out_length);
+}
+
+/* What a stream's calls answer: the word, the bytes taken, counted from the end
+ * of the part, and the end. */
+struct odd_stream {
+    uint64_t told;
+    int taken;
+    uint64_t end;
+};
+
+#define FRAME_OF(first, second) (UINT64_C(1) << 8 | (first) << 16 | (uint64_t)(second) << 24)
+
+enum { NOTHING = -1000 }; /* taken */
+
+static const struct odd_stream odd_streams[] = {
+    {FRAME_OF(5, 0), NOTHING, 0},            /* 0: a frame, and nothing taken */
+    {FRAME_OF(5, 0), 1, 0},                  /* 1: more taken than was fed */
+    {FRAME_OF(7, 6), 0, 0},                  /* 2: thirteen bytes in two runs */
+    {FRAME_OF(255, 255), 0, 0},              /* 3: far more */
+    {0, NOTHING, 0},                         /* 4: nothing told and nothing taken */
+    {0, -1, 0},                              /* 5: nothing told and a byte left */
+    {0, 1, 0},                               /* 6: nothing told, more taken than was fed */
+    {ODD_REFUSAL, 0, 0},                     /* 7: no such refusal */
+    {RAKHUBOLE_OUT_TOO_SHORT, 0, 0},         /* 8: twelve bytes are too few */
+    {RAKHUBOLE_STREAM_RECORD_WRONG, NOTHING, 0}, /* 9: a refusal, and nothing taken */
+    {RAKHUBOLE_STREAM_CUT, 0, 0},            /* 10: cut before the end */
+    {FRAME_OF(5, 0) | 1 << 9, 0, 0},         /* 11: three frames at once */
+    {0, 0, ODD_REFUSAL},                     /* 12: no such end */
+    {0, 0, RAKHUBOLE_STREAM_CUT | 1 << 8},   /* 13: an end with more in it */
+    {FRAME_OF(5, 0), 0, 0},                  /* 14: a frame, at a place that cannot be */
+    {FRAME_OF(12, 0), 0, 0}};                /* 15: twelve bytes in the first run */
+
+static const struct odd_stream *odd_stream_of(uint8_t byte)
+{
+    return &odd_streams[byte % (sizeof odd_streams / sizeof *odd_streams)];
+}
+
+uint64_t rakhubole_stream_read(const uint8_t state[RAKHUBOLE_STREAM_STATE], const uint8_t *part,
+                               size_t part_length, uint8_t *out, size_t out_length)
+{
+    static const uint8_t runs[] = {0x48, 0x6B, 0x10, 0x08, 0, 0, 0, 0, 0, 0, 0, 0};
+    (void)state, (void)part_length;
+    memcpy(out, runs, out_length < sizeof runs ? out_length : sizeof runs);
+    return odd_stream_of(part[0])->told;
+}
+
+uint64_t rakhubole_stream_advance(uint8_t state[RAKHUBOLE_STREAM_STATE], const uint8_t *part,
+                                  size_t part_length)
+{
+    int taken = odd_stream_of(part[0])->taken;
+    state[0] = part[0];
+    return taken == NOTHING ? 0 : part_length + (uint64_t)taken;
+}
+
+uint64_t rakhubole_stream_end(const uint8_t state[RAKHUBOLE_STREAM_STATE])
+{
+    return odd_stream_of(state[0])->end;
+}
+
+uint64_t rakhubole_stream_place(const uint8_t state[RAKHUBOLE_STREAM_STATE])
+{
+    return state[0];
 }
