@@ -5,6 +5,8 @@
 /* Where an option of this name is kept. */
 static bool *option(struct arguments *arguments, const char *name)
 {
+    if (strcmp(name, "--adapter") == 0)
+        return &arguments->adapter;
     if (strcmp(name, "--exact") == 0)
         return &arguments->exact;
     if (strcmp(name, "--json") == 0)

@@ -8,7 +8,7 @@
 #include <stddef.h>
 
 struct arguments {
-    bool exact, json, strict, help;
+    bool adapter, exact, json, strict, help;
     const struct bus *bus; /* NULL if none is said */
     size_t count;
     char **operands;

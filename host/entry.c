@@ -7,7 +7,7 @@
 bool entry_is_last(const struct entry *entry)
 {
     return entry->kind == ENTRY_NONE || entry->kind == ENTRY_FAULT ||
-           entry->kind == ENTRY_UNREADABLE;
+           entry->kind == ENTRY_ODD || entry->kind == ENTRY_UNREADABLE;
 }
 
 int complain_of_entry(const char *path, const struct entry *entry)
@@ -16,6 +16,16 @@ int complain_of_entry(const char *path, const struct entry *entry)
     if (entry->kind == ENTRY_UNREADABLE) {
         complain("%s: %s", path, entry->words);
         return STATUS_USAGE;
+    }
+    if (entry->kind == ENTRY_ODD) {
+        complain("%s %s %" PRIu64 ": the answers of the library are not as its papers say", path,
+                 entry->unit, entry->place);
+        return STATUS_USAGE;
+    }
+    if (!entry->text) {
+        complain("%s %s %" PRIu64 ": no message of this bus (%s)", path, entry->unit, entry->place,
+                 entry->words);
+        return STATUS_REFUSED;
     }
     int shown = entry->length < SHOWN ? (int)entry->length : SHOWN;
     complain("%s %s %" PRIu64 ": neither a frame nor a line of an adapter (%s): \"%.*s%s\"", path,

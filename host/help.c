@@ -11,7 +11,7 @@ struct help {
 };
 
 static const struct help helps[] = {
-    {"report", "[--bus BUS] [--exact] [--json] [--strict] SUPPLEMENT LOG",
+    {"report", "[--adapter] [--bus BUS] [--exact] [--json] [--strict] SUPPLEMENT LOG",
      "read a log of frames and show what each one says",
      "Shows for each frame of LOG a table of PRN, name and value, what is left over,\n"
      "the response, and the verdict:\n"
@@ -62,6 +62,17 @@ static const struct help helps[] = {
      "\n"
      "is shown and not decoded. Any other line is a fault.\n"
      "\n",
+     "  --adapter LOG is not text but the stream of a cable adapter: records one\n"
+     "            after the other, each a frame, or a tick, which is skipped. A frame\n"
+     "            is shown as in a log, but with the place of its record, the bytes\n"
+     "            before it, for its line. - is shown as it comes, frame by frame. A\n"
+     "            record that is refused counts as damaged:\n"
+     "              60  neither a frame nor a tick begins here: nothing from here on\n"
+     "                  is read, and the exit status is 1\n"
+     "              61  a damaged record; the stream goes on behind it\n"
+     "              62  the stream ended inside a record\n"
+     "            A stream of ticks alone is said to be one; with --strict the exit\n"
+     "            status is then 1. 'rakhubole pack' makes a stream to try.\n"
      "  --bus     the bus of the log: j1850, SAE J1850, which is meant if none is\n"
      "            said, or iso9141, ISO 9141-2. Layouts serve both. If more than\n"
      "            half of the frames have a wrong check byte here and would be\n"
@@ -73,7 +84,8 @@ static const struct help helps[] = {
      "            table alone: JSON has the fraction in any case.\n"
      "  --strict  exit status 1 unless every frame is Clear and none is damaged\n"
      "  --json    one object a line for each frame, and nothing of it lost: \"line\",\n"
-     "            \"bus\" (the word of --bus), \"first\" and \"response\" (bytes),\n"
+     "            with --adapter \"byte\", \"bus\" (the word of --bus), \"first\" and\n"
+     "            \"response\" (bytes; a record that is refused has none),\n"
      "            \"refusal\" (0 for none) and its \"reason\". Of a report also\n"
      "            \"layout_sought\" (first byte, target, selector present, selector)\n"
      "            and the rows: \"items\", \"remainder\", \"answer\" and \"verdict\". A row\n"

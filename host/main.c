@@ -37,6 +37,11 @@ static int complain_of_use(const struct command *command, const char *fault, con
     return STATUS_USAGE;
 }
 
+static bool has_options(const struct arguments *arguments)
+{
+    return arguments->adapter || arguments->exact || arguments->json || arguments->strict;
+}
+
 static int run_command(const struct command *command, int count, char **values)
 {
     struct arguments arguments;
@@ -45,8 +50,9 @@ static int run_command(const struct command *command, int count, char **values)
         return complain_of_use(command, misuse.fault, misuse.what);
     if (arguments.help)
         return put_help(command->name) ? flush_output() : STATUS_USAGE;
-    if (!command->has_options && (arguments.exact || arguments.json || arguments.strict))
-        return complain_of_use(command, "only report takes --exact, --json and --strict", "");
+    if (!command->has_options && has_options(&arguments))
+        return complain_of_use(command, "only report takes --adapter, --exact, --json and --strict",
+                               "");
     if (!command->has_bus && arguments.bus)
         return complain_of_use(command, "only report, frame and send take --bus", "");
     if (arguments.count < command->least)

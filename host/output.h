@@ -6,9 +6,10 @@
 #include "entry.h"
 #include "reading.h"
 
-/* How many lines of a log were what. */
+/* How many lines of a log, or records of a stream, were what. */
 struct tally {
     size_t clear, flagged, unknown, refused, damaged, passed;
+    size_t records; /* refused, so no frames */
     size_t of_other_bus; /* refused for the check byte here, accepted there */
 };
 

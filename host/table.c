@@ -270,6 +270,8 @@ static void table_end(const struct tally *tally)
            frames == 1 ? "" : "s", tally->clear, tally->flagged, tally->unknown, tally->refused);
     if (tally->damaged)
         printf("; %zu damaged or lost by the adapter's word", tally->damaged);
+    if (tally->records)
+        printf("; %zu damaged record%s", tally->records, tally->records == 1 ? "" : "s");
     if (tally->passed)
         printf("; %zu line%s passed over", tally->passed, tally->passed == 1 ? "" : "s");
     putchar('\n');
