@@ -90,24 +90,12 @@ static int accept_draft(const struct draft *draft, const char *path)
     return STATUS_REFUSED;
 }
 
-/* The target is a file of its own. */
-static bool is_target(const char *text, const char *target)
-{
-    if (strcmp(target, "-") == 0)
-        complain("a supplement is binary: give a file to write, not -");
-    else if (is_same_file(text, target))
-        complain("%s: is the text itself, give another file for the supplement", target);
-    else
-        return true;
-    return false;
-}
-
 int command_compile(const struct arguments *arguments)
 {
     const char *text = arguments->operands[0], *target = arguments->operands[1];
     struct draft draft;
     draft.supplement.length = draft.count = 0;
-    FILE *file = is_target(text, target) ? open_to_read(text) : NULL;
+    FILE *file = is_target(target, "supplement", text, "text") ? open_to_read(text) : NULL;
     if (!file)
         return STATUS_USAGE;
     int status = read_text(&draft, file, shown_path(text));

@@ -10,11 +10,22 @@
 #include <sys/stat.h>
 #include <unistd.h>
 
-bool is_same_file(const char *one, const char *other)
+static bool is_same_file(const char *one, const char *other)
 {
     struct stat a, b;
     return stat(one, &a) == 0 && stat(other, &b) == 0 && a.st_dev == b.st_dev &&
            a.st_ino == b.st_ino;
+}
+
+bool is_target(const char *path, const char *made, const char *source, const char *from)
+{
+    if (strcmp(path, "-") == 0)
+        complain("a %s is binary: give a file to write, not -", made);
+    else if (is_same_file(source, path))
+        complain("%s: is the %s itself, give another file for the %s", path, from, made);
+    else
+        return true;
+    return false;
 }
 
 /* The rights that the file has, or that a new file gets. */

@@ -11,7 +11,8 @@
  * STATUS_USAGE. */
 int write_file(const char *path, const uint8_t *bytes, size_t length);
 
-/* Whether both paths lead to the same file. */
-bool is_same_file(const char *one, const char *other);
+/* Whether what is made from a source can be written to the path: a file, and not
+ * the source itself. If not, a message that calls both so: "supplement", "text". */
+bool is_target(const char *path, const char *made, const char *source, const char *from);
 
 #endif
