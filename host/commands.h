@@ -10,5 +10,6 @@ int command_compile(const struct arguments *arguments);
 int command_show(const struct arguments *arguments);
 int command_frame(const struct arguments *arguments);
 int command_send(const struct arguments *arguments);
+int command_pack(const struct arguments *arguments);
 
 #endif

@@ -150,7 +150,22 @@ static const struct help helps[] = {
      "\n"
      "  rakhubole send 486B10 416580\n"
      "  rakhubole send \"63 1A F1\" - 1234\n"
-     "  rakhubole send --bus iso9141 686AF1 010C\n", ""}};
+     "  rakhubole send --bus iso9141 686AF1 010C\n", ""},
+    {"pack", "[--bus BUS] LOG STREAM",
+     "make a stream of a log, to try report --adapter",
+     "Writes STREAM: each frame of LOG as the record that a cable adapter sends, in\n"
+     "their order and unread, so that 'rakhubole report --adapter' shows the same\n"
+     "reports and refusals. What the adapter of the log says, or marks as damaged, is\n"
+     "named and left out. No ticks are written.\n"
+     "\n"
+     "A line that is none of a log is named, and so is a frame of more than 12 bytes,\n"
+     "which no record holds; then no file is written, and what stood at STREAM stays.\n"
+     "A log without a frame makes none either. LOG may be - for the standard input.\n"
+     "BUS is that of the log, as for report.\n"
+     "\n"
+     "  rakhubole pack trip.log trip.stream\n"
+     "  rakhubole report --adapter van.sup trip.stream\n"
+     "  cat trip.stream | rakhubole report --adapter van.sup -\n", ""}};
 
 enum { HELPS = sizeof helps / sizeof *helps };
 

@@ -20,7 +20,8 @@ static const struct command commands[] = {
     {"compile", command_compile, 2, 2, false, false},
     {"show", command_show, 1, 1, false, false},
     {"frame", command_frame, 1, (size_t)-1, true, false},
-    {"send", command_send, 2, PARTS, true, false}};
+    {"send", command_send, 2, PARTS, true, false},
+    {"pack", command_pack, 2, 2, true, false}};
 
 static const struct command *find_command(const char *name)
 {
@@ -54,7 +55,7 @@ static int run_command(const struct command *command, int count, char **values)
         return complain_of_use(command, "only report takes --adapter, --exact, --json and --strict",
                                "");
     if (!command->has_bus && arguments.bus)
-        return complain_of_use(command, "only report, frame and send take --bus", "");
+        return complain_of_use(command, "only report, frame, send and pack take --bus", "");
     if (arguments.count < command->least)
         return complain_of_use(command, "something is missing", "");
     if (arguments.count > command->most)
@@ -69,8 +70,8 @@ static int run_command(const struct command *command, int count, char **values)
 
 static int complain_of_command(const char *name)
 {
-    complain("there is no command '%s': use report, check, compile, show, frame, send or help",
-             name);
+    complain("there is no command '%s': use report, check, compile, show, frame, send, pack or "
+             "help", name);
     return STATUS_USAGE;
 }
 
