@@ -7,8 +7,10 @@ Random supplements come back from their text byte for byte; the samples show eve
 JSON loses nothing, and its numbers are as short as can be; fractions are those of their SLOTs, give
 the doubles, and stand in the table under --exact; each code of a SLOT with codes between its states
 is a printed state, marked as none, or Unknown; random frames have the same report on both buses; a
-log under the wrong bus is said to be one exactly if more than half of it is; a stream is shown as
-it comes, with progress where somebody looks.
+log under the wrong bus is said to be one exactly if more than half of it is; a log and the stream
+packed from it have the same reports; a stream gives what its records are, however it is cut; the
+guide's example in C shows what the tool shows; frames of a pipe are shown as they come, with
+progress where somebody looks.
 """
 import itertools
 import json
@@ -19,6 +21,7 @@ import pty
 import random
 import re
 import select
+import socket
 import struct
 import subprocess
 import sys
@@ -26,7 +29,8 @@ import tempfile
 import time
 from fractions import Fraction
 
-sys.path.insert(0, str(pathlib.Path(__file__).resolve().parents[2] / "tools"))
+TOP = pathlib.Path(__file__).resolve().parents[2]
+sys.path.insert(0, str(TOP / "tools"))
 from c_names import c_names
 
 FORMAT, NAMES = c_names("host/format.h"), c_names("include/rakhubole.h")
@@ -34,11 +38,14 @@ SUPPLEMENTS = 300
 NUMBERS = 100
 FRACTIONS = 120
 FRAMES = 60
+PACKS = 20
+STREAMS = 150
 SEED = 1
 SECONDS = 10
 REFUSALS = {*range(NAMES.RAKHUBOLE_OVER_TWELVE_BYTES, NAMES.RAKHUBOLE_TYPE_UNASSIGNED + 1),
             *range(NAMES.RAKHUBOLE_RESPONSE_FORBIDDEN, NAMES.RAKHUBOLE_RESPONSE_TOO_MANY + 1),
             NAMES.RAKHUBOLE_RESPONSE_CHECK_BYTE_WRONG}
+STREAM_REFUSALS = set(range(NAMES.RAKHUBOLE_STREAM_KIND_UNKNOWN, NAMES.RAKHUBOLE_STREAM_CUT + 1))
 ISO_REFUSALS = {NAMES.RAKHUBOLE_OVER_TWELVE_BYTES, NAMES.RAKHUBOLE_FIRST_RUN_SHORT,
                 NAMES.RAKHUBOLE_CHECK_BYTE_WRONG, NAMES.RAKHUBOLE_FIRST_BYTE_WRONG}
 UNKNOWNS = set(range(NAMES.RAKHUBOLE_UNKNOWN_PRN, NAMES.RAKHUBOLE_UNKNOWN_LAYOUT + 1))
@@ -56,7 +63,7 @@ LOGS = {"j1850": "van.log", "iso9141": "iso.log"}
 FRAME = b"48 6B 10 41 65 80 29\n"
 ISO_FRAME = b"48 6B 10 41 65 80 E9\n"
 PAUSE = 0.5
-STEPS = rb"(\r\x1b\[Kline \d+)+\r\x1b\[K"
+STEPS = rb"(\r\x1b\[K%s \d+)+\r\x1b\[K"
 
 
 def edge(chance, low, high):
@@ -127,8 +134,8 @@ def test_round_trips(tool, _samples):
         yield f"only {accepted} of {SUPPLEMENTS} supplements are accepted"
 
 
-def objects(tool, supplement, log, bus="j1850", **hooks):
-    run = subprocess.run([tool, "report", "--json", "--bus", bus, supplement, log],
+def objects(tool, supplement, log, bus="j1850", options=(), **hooks):
+    run = subprocess.run([tool, "report", "--json", "--bus", bus, *options, supplement, log],
                          stdout=subprocess.PIPE, stderr=subprocess.DEVNULL, check=True)
     return [json.loads(line, **hooks) for line in run.stdout.decode("ascii").splitlines()]
 
@@ -361,35 +368,266 @@ def test_wrong_bus(tool, samples):
                 yield f"{strange} of {count} frames are not of {bus}: {run.stderr!r}"
 
 
-def test_stream(tool, samples):
-    """Each frame is shown before the next one comes."""
-    process = subprocess.Popen([tool, "report", samples / "van.sup", "-"], stdin=subprocess.PIPE,
-                               stdout=subprocess.PIPE)
-    for _ in range(3):
-        process.stdin.write(FRAME)
-        process.stdin.flush()
-        shown = b""
-        while b"verdict" not in shown:
-            if not select.select([process.stdout], [], [], SECONDS)[0]:
-                yield "a frame of a stream is not shown before the next one comes"
+def frame_record(first, second=b""):
+    runs = (first + second).ljust(FORMAT.FRAME_MOST, b"\0")
+    return bytes((FORMAT.STREAM_FRAME, len(first), len(second))) + runs
+
+
+RECORD = frame_record(bytes.fromhex(FRAME.decode("ascii")))
+TICK = bytes((FORMAT.STREAM_TICK,)).ljust(NAMES.RAKHUBOLE_STREAM_TICK_RECORD, b"\0")
+
+
+def random_line(chance, bus):
+    """A line of a log: a frame, accepted or not, or one that holds none."""
+    if chance.random() < 0.3:
+        return chance.choice(("# a comment", "", "OK", ">010C", "48 6B <DATA ERROR", "NO DATA"))
+    count = chance.randint(0, FORMAT.FRAME_MOST)
+    first = count if bus == "iso9141" else chance.randint(0, count)
+    runs = chance.randbytes(count)
+    if chance.random() < 0.5:
+        return FRAME.decode("ascii").strip()
+    return f"{runs[:first].hex()} / {runs[first:].hex()}"
+
+
+def without_place(reports, name):
+    return [{key: value for key, value in report.items() if key != name} for report in reports]
+
+
+def test_pack(tool, samples):
+    """A log and the stream packed from it have the same reports; records are 15 bytes each."""
+    chance = random.Random(SEED)
+    with tempfile.TemporaryDirectory() as name:
+        log, stream = (pathlib.Path(name) / n for n in ("log", "stream"))
+        for bus, i in itertools.product(LOGS, range(PACKS)):
+            lines = [FRAME.decode("ascii"), *(random_line(chance, bus) for _ in range(4 * i))]
+            log.write_text("\n".join(lines), encoding="ascii")
+            subprocess.run([tool, "pack", "--bus", bus, log, stream], stdout=subprocess.DEVNULL,
+                           check=True)
+            wanted = [report for report in objects(tool, samples / "van.sup", log, bus)
+                      if report["refusal"] is not None]
+            found = objects(tool, samples / "van.sup", stream, bus, ("--adapter",))
+            if without_place(wanted, "line") != without_place(found, "byte"):
+                yield f"a stream differs from its log on {bus}: {lines}"
+            places = range(0, stream.stat().st_size, NAMES.RAKHUBOLE_STREAM_FRAME_RECORD)
+            if [report["byte"] for report in found] != list(places):
+                yield f"the places of a packed stream on {bus} are wrong: {found}"
+
+
+def random_stream(chance):
+    """A stream, and what is told of it: places with runs or the refusal."""
+    stream, told = b"", []
+    for _ in range(chance.randrange(12)):
+        place, count = len(stream), chance.randint(0, FORMAT.FRAME_MOST)
+        first, runs = chance.randint(0, count), chance.randbytes(count)
+        record = frame_record(runs[:first], runs[first:])
+        what = chance.random()
+        if what < 0.3:
+            stream += TICK[:1] + chance.randbytes(len(TICK) - 1)
+        elif what < 0.7:
+            stream += record
+            told.append((place, runs[:first], runs[first:]))
+        elif what < 0.8 and count < FORMAT.FRAME_MOST:
+            stream += record[:-1] + b"\1"
+            told.append((place, NAMES.RAKHUBOLE_STREAM_RECORD_WRONG))
+        elif what < 0.9:
+            stream += bytes((FORMAT.STREAM_FRAME, 7, 6)) + chance.randbytes(FORMAT.FRAME_MOST)
+            told.append((place, NAMES.RAKHUBOLE_STREAM_RECORD_WRONG))
+        elif what < 0.95:
+            stream += bytes((chance.choice((0, 3, 255)),)) + chance.randbytes(20)
+            return stream, [*told, (place, NAMES.RAKHUBOLE_STREAM_KIND_UNKNOWN)]
+    return stream, told
+
+
+def cut_stream(chance, stream, told):
+    """Sometimes the stream ends inside its last record, if that was told."""
+    is_cut = told and len(stream) == told[-1][0] + NAMES.RAKHUBOLE_STREAM_FRAME_RECORD
+    if not is_cut or chance.random() < 0.5:
+        return stream, told
+    place = told[-1][0]
+    return (stream[:chance.randint(place + 1, len(stream) - 1)],
+            [*told[:-1], (place, NAMES.RAKHUBOLE_STREAM_CUT)])
+
+
+def what_is_told(output):
+    """Each object of the output as random_stream has it."""
+    reports = [json.loads(line) for line in output.decode("ascii").splitlines()]
+    return [(report["byte"], report["refusal"])
+            if report["refusal"] >= NAMES.RAKHUBOLE_STREAM_KIND_UNKNOWN else
+            (report["byte"], bytes.fromhex(report["first"]), bytes.fromhex(report["response"]))
+            for report in reports]
+
+
+def fed(command, parts):
+    """Output and exit status of a command that gets each part by a read of its own, which has to
+    have room for it."""
+    ours, theirs = socket.socketpair(socket.AF_UNIX, socket.SOCK_SEQPACKET)
+    with ours, tempfile.TemporaryFile() as out:
+        process = subprocess.Popen(command, stdin=theirs, stdout=out, stderr=subprocess.DEVNULL)
+        theirs.close()
+        try:
+            for part in parts:
+                ours.send(part)
+        except OSError:
+            pass  # nothing is read behind an unknown kind
+        ours.close()
+        status = process.wait(SECONDS)
+        out.seek(0)
+        return out.read(), status
+
+
+def random_parts(chance, stream):
+    """The stream in parts: all of one byte, or of any lengths."""
+    most, parts = chance.choice((1, 4, 40)), []
+    while stream:
+        count = chance.randint(1, most)
+        parts.append(stream[:count])
+        stream = stream[count:]
+    return parts
+
+
+def test_cuts(tool, samples):
+    """A stream gives its frames and refusals in their order, as a file and however it is cut."""
+    chance, refusals = random.Random(SEED), set()
+    with tempfile.TemporaryDirectory() as name:
+        path = pathlib.Path(name) / "stream"
+        for _ in range(STREAMS):
+            stream, wanted = cut_stream(chance, *random_stream(chance))
+            path.write_bytes(stream)
+            refusals |= {told[1] for told in wanted if len(told) == 2}
+            command = [tool, "report", "--adapter", "--json", samples / "van.sup"]
+            whole = subprocess.run([*command, path], stdout=subprocess.PIPE,
+                                   stderr=subprocess.DEVNULL)
+            if what_is_told(whole.stdout) != wanted:
+                yield f"{stream.hex()} does not give {wanted}: {whole.stdout}"
+            if fed([*command, "-"], random_parts(chance, stream)) != (whole.stdout,
+                                                                      whole.returncode):
+                yield f"a cut stream gives otherwise than the whole: {stream.hex()}"
+    if refusals != STREAM_REFUSALS:
+        yield f"the random streams miss refusals: {sorted(STREAM_REFUSALS - refusals)}"
+
+
+# What the guide's example leaves to the firmware.
+GUIDE_MAIN = r"""
+#include "rakhubole.h"
+
+#include <stdio.h>
+#include <unistd.h>
+
+void show_stream(const uint8_t *supplement, size_t supplement_length);
+size_t port_read(uint8_t *bytes, size_t room);
+void show_rows(uint64_t place, const uint8_t *rows, size_t length);
+void show_refusal(uint64_t place, unsigned refusal);
+
+size_t port_read(uint8_t *bytes, size_t room)
+{
+    ssize_t count = read(STDIN_FILENO, bytes, room);
+    return count > 0 ? (size_t)count : 0;
+}
+
+void show_rows(uint64_t place, const uint8_t *rows, size_t length)
+{
+    printf("%llu rows ", (unsigned long long)place);
+    for (size_t i = 0; i < length; i++)
+        printf("%02X", rows[i]);
+    putchar('\n');
+}
+
+void show_refusal(uint64_t place, unsigned refusal)
+{
+    printf("%llu refused %u\n", (unsigned long long)place, refusal);
+}
+
+int main(int count, char **values)
+{
+    static uint8_t supplement[16384];
+    FILE *file = count == 2 ? fopen(values[1], "rb") : NULL;
+    if (!file)
+        return 1;
+    show_stream(supplement, fread(supplement, 1, sizeof supplement, file));
+    fclose(file);
+    return 0;
+}
+"""
+
+
+def guide_example(tool, folder):
+    """The guide's example, built with the rest that it needs: it shows a stream from its standard
+    input, for each frame or refusal a line."""
+    guide = (TOP / "docs/GUIDE.md").read_text(encoding="utf-8")
+    example, = re.findall(r"```c\n(.*?)```", guide, re.DOTALL)
+    (folder / "example.c").write_text(example, encoding="ascii")
+    (folder / "main.c").write_text(GUIDE_MAIN, encoding="ascii")
+    subprocess.run(["cc", "-std=c99", "-Wall", "-Wextra", "-Wpedantic", "-Werror",
+                    f"-I{TOP / 'include'}", folder / "example.c", folder / "main.c",
+                    pathlib.Path(tool).with_name("librakhubole.a"), "-o", folder / "example"],
+                   check=True)
+    return folder / "example"
+
+
+def example_line(report):
+    """An object of the tool as the built example prints it."""
+    if report["refusal"]:
+        return f"{report['byte']} refused {report['refusal']}"
+    return f"{report['byte']} rows " + "".join(row["row"] for row in rows_of(report))
+
+
+def test_guide(tool, samples):
+    """The guide's example compiles and shows what the tool shows."""
+    with tempfile.TemporaryDirectory() as name:
+        example = guide_example(tool, pathlib.Path(name))
+        unknown = pathlib.Path(name) / "unknown.stream"
+        unknown.write_bytes(RECORD + b"\0" + RECORD)
+        for path in (samples / "van.stream", samples / "damaged.stream", unknown):
+            run = subprocess.run([tool, "report", "--adapter", "--json", samples / "van.sup", path],
+                                 stdout=subprocess.PIPE)
+            wanted = [example_line(json.loads(line)) for line in run.stdout.splitlines()]
+            stream = path.read_bytes()
+            for size in (1, 7, 64):
+                shown, _ = fed([example, samples / "van.sup"],
+                               [stream[i:i + size] for i in range(0, len(stream), size)])
+                if shown.decode("ascii").splitlines() != wanted:
+                    yield f"the guide's example shows of {path.name}: {shown}"
+
+
+def is_shown(process, word):
+    """Whether the process shows this word, though its input goes on."""
+    shown = b""
+    while word not in shown:
+        if not select.select([process.stdout], [], [], SECONDS)[0]:
+            return False
+        shown += process.stdout.read1()
+    return True
+
+
+def test_as_it_comes(tool, samples):
+    """Each frame is shown before the next one comes, that of a stream behind its last byte."""
+    for options, parts in (((), [FRAME]), (("--adapter",), [RECORD]),
+                           (("--adapter",), [bytes((byte,)) for byte in TICK + RECORD])):
+        process = subprocess.Popen([tool, "report", *options, samples / "van.sup", "-"],
+                                   stdin=subprocess.PIPE, stdout=subprocess.PIPE)
+        for _ in range(3):
+            for part in parts:
+                process.stdin.write(part)
+                process.stdin.flush()
+            if not is_shown(process, b"verdict"):
+                yield f"a frame of a pipe is not shown before the next one comes: {options}"
                 process.kill()
                 return
-            shown += process.stdout.read1()
-    process.stdin.close()
-    if process.wait(SECONDS) != 0 or b"3 frames: 3 Clear" not in process.stdout.read():
-        yield "a stream is not shown to its end"
+        process.stdin.close()
+        if process.wait(SECONDS) != 0 or b"3 frames: 3 Clear" not in process.stdout.read():
+            yield f"a pipe is not shown to its end: {options}"
 
 
-def on_terminal(tool, samples, options, out):
-    """What stands on the terminal that has the error output, while frames come slowly."""
+def on_terminal(tool, samples, options, out, parts):
+    """What stands on the terminal that has the error output, while two parts come slowly."""
     ours, theirs = pty.openpty()
     process = subprocess.Popen([tool, "report", *options, samples / "van.sup", "-"],
                                stdin=subprocess.PIPE, stdout=theirs if out is None else out,
                                stderr=theirs)
-    process.stdin.write(FRAME)
+    process.stdin.write(parts[0])
     process.stdin.flush()
     time.sleep(PAUSE)
-    process.stdin.write(FRAME + b"OK\n")
+    process.stdin.write(parts[1])
     process.stdin.close()
     process.wait(SECONDS)
     os.close(theirs)
@@ -405,17 +643,21 @@ def on_terminal(tool, samples, options, out):
 
 def test_progress(tool, samples):
     """Progress is shown where the output goes elsewhere, and is taken away before a message."""
-    for options, out, wanted in (
-            ((), subprocess.DEVNULL, STEPS),
-            (("--json",), subprocess.DEVNULL, STEPS + rb"rakhubole: line 3 passed over[^\r]*\r\n"),
-            ((), None, rb"[^\x1b]*(\x1b\[(32|0)m[^\x1b]*)*")):
-        shown = on_terminal(tool, samples, options, out)
+    log, stream, steps = (FRAME, FRAME + b"OK\n"), (RECORD, TICK + RECORD), STEPS % b"line"
+    for options, out, parts, wanted in (
+            ((), subprocess.DEVNULL, log, steps),
+            (("--json",), subprocess.DEVNULL, log,
+             steps + rb"rakhubole: line 3 passed over[^\r]*\r\n"),
+            (("--adapter",), subprocess.DEVNULL, stream, STEPS % b"byte"),
+            ((), None, log, rb"[^\x1b]*(\x1b\[(32|0)m[^\x1b]*)*")):
+        shown = on_terminal(tool, samples, options, out, parts)
         if not re.fullmatch(wanted, shown):
             yield f"on a terminal stands {shown!r}, not {wanted!r}"
 
 
 TESTS = (test_round_trips, test_samples, test_json, test_numbers, test_fractions, test_states,
-         test_buses, test_wrong_bus, test_stream, test_progress)
+         test_buses, test_wrong_bus, test_pack, test_cuts, test_guide, test_as_it_comes,
+         test_progress)
 
 
 def main():
@@ -425,7 +667,8 @@ def main():
         print(f"tool-test: {fault}")
     print(f"tool-test: {SUPPLEMENTS} random supplements, {2 * NUMBERS} Numbers, "
           f"{FRACTIONS} fractions, every code of {len(STATES)} SLOTs, {FRAMES} frames on both "
-          "buses, every kind of line, JSON, the wrong bus, a stream and progress: "
+          f"buses, every kind of line, JSON, the wrong bus, {2 * PACKS} packed logs, {STREAMS} "
+          "random streams cut at random, the guide's example, pipes and progress: "
           f"{len(faults)} faults")
     return 1 if faults else 0
 
