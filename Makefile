@@ -44,6 +44,8 @@ demo: $(TOOL) ## run the host tool on the samples
 	$(TOOL) frame $$($(TOOL) send 631AF1 - 1234)
 	$(TOOL) report --bus iso9141 samples/van.sup samples/iso.log
 	$(TOOL) frame --bus iso9141 $$($(TOOL) send --bus iso9141 686AF1 010C)
+	grep -v ' 00 7C$$' samples/van.log | $(TOOL) pack - build/van.stream
+	cat build/van.stream samples/damaged.stream | $(TOOL) report --adapter samples/van.sup -
 
 test: ## run everything: the checks, then the proofs, the must-fail edits and the programs, from nothing
 	bash .ci/run
