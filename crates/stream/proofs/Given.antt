@@ -6,6 +6,7 @@ use mathlib.Core.Option.{Option, none, some}
 use mathlib.Core.Option.{Option·map}
 use Prim.Native.Nat.{ℕ, _+_, _≤_}
 use native.Mathlib.Omega.{arith}
+use borrow.Author.Tests.{le-ltb}
 use lib.Dec.{eqb}
 use lib.ListN.{drop, length-take}
 use Rattle.frame.specs.Frame.{Frame, frameSize, MostBytes}
@@ -14,6 +15,7 @@ use Rattle.stream.specs.Refusal.{StreamKindUnknown, StreamRecordWrong}
 use Rattle.stream.specs.Record.{FrameKind, TickKind, kindOf, firstLength, secondLength, RunsAt, runsIn, runsFit, partial, tells}
 use Rattle.stream.specs.Stream.{Event}
 use Rattle.stream.specs.Reader.{Position, eventAt, outgrows, within, answered, told, reach}
+use Rattle.stream.specs.Calls.{isShort}
 use Rattle.stream.proofs.record.Laws.{fit-within}
 
 -- A frame, if there is one, is of twelve bytes at most.
@@ -45,26 +47,44 @@ record-fits r = go (eqb (kindOf r) TickKind) (eqb (kindOf r) FrameKind) (runsFit
           length-take (secondLength r) (drop (RunsAt + firstLength r) r),
         )
 
-answer-fits : (p : Position) (part : List ℕ) (room : ℕ) → AllFits (answered p part room)
+-- What stands at a position, with its place.
+abbrev EventFits : Option Event → Type 0
+EventFits none = Unit {0}
+EventFits (some e) = Fits (e .told)
+
+event-fits : (p : Position) → EventFits (eventAt p)
 unfolding eventAt
-answer-fits p part room =
-    let q = reach p part .position in
-    go (q .place) (partial (q .begun)) (tells (q .begun)) (record-fits (q .begun))
+event-fits p = go (partial (p .begun)) (tells (p .begun)) (record-fits (p .begun))
+  where
+    go :
+        (t : Bool) (o : Option (Outcome Frame))
+        → AllFits o
+        → EventFits (cond t none (Option·map (λ (x : Outcome Frame). record { place = p .place; told = x }) o))
+    go true o w = tt
+    go false none w = tt
+    go false (some o) w = w
+
+-- "a frame that is given has two runs of at most twelve bytes together"
+pub given-within : (p : Position) (part : List ℕ) (room : ℕ) (f : Frame) → answered p part room ≡ some (accepted f) → frameSize f ≤ MostBytes
+given-within p part room f e =
+    subst AllFits e (go (told p part) (event-fits (reach p part .position)))
   where
     lent : (o : Outcome Frame) (t : Bool) → Fits o → Fits (cond t (refused OutputShort) o)
     lent o true w = tt
     lent o false w = w
 
-    go :
-        (place : ℕ) (t : Bool) (o : Option (Outcome Frame))
-        → AllFits o
-        → AllFits
-        (Option·map (λ (e : Event). within room (e .told))
-        (cond t none (Option·map (λ (x : Outcome Frame). record { place = place; told = x }) o)))
-    go place true o w = tt
-    go place false none w = tt
-    go place false (some o) w = lent o (outgrows o room) w
+    go : (x : Option Event) → EventFits x → AllFits (Option·map (λ (y : Event). within room (y .told)) x)
+    go none w = tt
+    go (some y) w = lent (y .told) (outgrows (y .told) room) w
 
--- "a frame that is given has two runs of at most twelve bytes together"
-pub given-within : (p : Position) (part : List ℕ) (room : ℕ) (f : Frame) → answered p part room ≡ some (accepted f) → frameSize f ≤ MostBytes
-given-within p part room f e = subst AllFits e (answer-fits p part room)
+-- Twelve bytes of output are always enough.
+pub never-short : (p : Position) (part : List ℕ) (room : ℕ) → MostBytes ≤ room → isShort (told p part) room ≡ false
+never-short p part room l = go (told p part) (event-fits (reach p part .position))
+  where
+    fits : (o : Outcome Frame) → Fits o → outgrows o room ≡ false
+    fits (refused n) w = refl
+    fits (accepted f) w = le-ltb room (frameSize f) (omega (arith, l, w))
+
+    go : (x : Option Event) → EventFits x → isShort x room ≡ false
+    go none w = refl
+    go (some y) w = fits (y .told) w

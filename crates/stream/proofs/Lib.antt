@@ -1,2 +1,3 @@
 -- What is proved of the definitions for who relies on them; the laws of each module stand below its name.
 pub mod Given
+pub mod calls

@@ -2,3 +2,4 @@
 pub mod Laws
 pub mod Going
 pub mod Gives
+pub mod Flow

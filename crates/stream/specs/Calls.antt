@@ -6,8 +6,8 @@ use mathlib.Core.Logic.{_⊎_}
 use mathlib.Core.List.{List, [], _∷_, _++_}
 use mathlib.Core.Option.{Option, none, some}
 use lib.ListN.{length, take, drop, replicate}
-use Rattle.stream.specs.Stream.{Event, listed}
-use Rattle.stream.specs.Reader.{Position, told, taken, after, outgrows}
+use Rattle.stream.specs.Stream.{Event, listed, wholeStream}
+use Rattle.stream.specs.Reader.{Position, told, taken, after, outgrows, endPlace}
 use Rattle.stream.specs.State.{positionIn, bytesOf}
 
 -- A form of state: the position that a state is, and the state of a position. By value it is the position itself; for C, 24 bytes.
@@ -59,6 +59,12 @@ callsOver f (c ∷ cs) s rest =
 -- All was taken, or reading has stopped, after which no call takes more.
 abbrev pub AllRead : {S : Type 0} → Form S → Run S → Type 0
 AllRead f r = (r .rest ≡ []) ⊎ (f .view (r .state) .stopped ≡ true)
+
+-- "the same frames and refusals, in the same order, as if the stream had come at once", each with its place; and at the end the place of
+-- the record that the stream ends in, exactly if it does.
+pub record AsAtOnce {S : Type 0} (f : Form S) (s : List ℕ) (r : Run S) : Type 0 where
+  pub events : r .events ≡ wholeStream s .events
+  pub end : endPlace (f .view (r .state)) ≡ wholeStream s .cut
 
 -- A list of parts, each fed to one call after the other with what is left of it. Each takes a byte at least, so as many as bytes are
 -- enough; those behind the last byte change nothing.
