@@ -2,3 +2,4 @@
 pub mod Laws
 pub mod Copied
 pub mod Bytes
+pub mod Back

@@ -5,33 +5,31 @@ use mathlib.Core.Bool.{Bool, true, false, cond}
 use mathlib.Core.List.{List, [], _∷_, _++_, append-assoc, append-nil}
 use mathlib.Core.Option.{Option, none, some}
 use Prim.Native.Nat.{ℕ, zero, suc, _+_, _^_, _≤_, _<_}
-use native.Mathlib.Nat.{mod-lt}
+use native.Mathlib.Nat.{mod-lt, not-suc-le-zero}
 use native.Mathlib.Omega.{arith}
 use lib.ListN.{length, take, drop, replicate, length-drop, take-append-drop, drop-of-length-le}
 use lib.Seq.{drop-append-le, take-all, length-take-le}
 use Rattle.frame.specs.Frame.{MostBytes}
 use Rattle.frame.proofs.bytes.Laws.{cases}
 use Rattle.stream.specs.Record.{partial}
-use Rattle.stream.specs.Stream.{Event, Whole, listed, ahead}
-use Rattle.stream.specs.Reader.{Position, withByte, passed, isTelling, Reached, reach, told, taken, after, endPlace}
-use Rattle.stream.specs.Calls.{Form, isShort, Step, call, Run, Lent, callsOver, AllRead, partsFed, joinedParts}
+use Rattle.stream.specs.Stream.{Event, Whole, listed, ahead, wholeStream}
+use Rattle.stream.specs.Reader.{Position, fresh, withByte, passed, isTelling, Reached, reach, told, taken, after, endPlace}
+use Rattle.stream.specs.Calls.{Form, BetweenCalls, Keeping, isShort, Step, call, Run, Lent, callsOver, AllRead, AsAtOnce}
+use Rattle.stream.specs.Calls.{partsFed, joinedParts}
 use Rattle.stream.proofs.reader.Laws.{reach-none, reach-stopped, reach-tells, reach-on, passed-partial}
-use Rattle.stream.proofs.reader.Flow.{flow, flow-none, flow-stopped, open-passed, call-flow}
+use Rattle.stream.proofs.reader.Flow.{flow, flow-none, flow-stopped, open-event, open-passed, call-flow, whole-flow}
+use Rattle.stream.proofs.record.Laws.{no-bytes}
 use Rattle.stream.proofs.Given.{never-short}
 
 ahead-ahead : (es fs : List Event) (w : Whole) → ahead es (ahead fs w) ≡ ahead (es ++ fs) w
 ahead-ahead es fs w = (λ i. record { events = sym (append-assoc es fs (w .events)) i; cut = w .cut })
 
--- A position that a state can hold.
-abbrev pub Good : Position → Type 0
-Good p = (p .place < 2 ^ 64) × (partial (p .begun) ≡ true)
-
 passed-place : (p : Position) → p .place < 2 ^ 64 → passed p .place < 2 ^ 64
 unfolding passed
 passed-place p l = cases (partial (p .begun)) (λ e. rw e l) (λ e. rw e (mod-lt (p .place + length (p .begun)) (omega arith)))
 
-good-passed : (p : Position) → p .place < 2 ^ 64 → Good (passed p)
-good-passed p l = (passed-place p l, passed-partial p)
+between-passed : (p : Position) → p .place < 2 ^ 64 → BetweenCalls (passed p)
+between-passed p l = record { place = passed-place p l; open-record = passed-partial p }
 
 reached-place : (p : Position) (part : List ℕ) → p .place < 2 ^ 64 → reach p part .position .place < 2 ^ 64
 reached-place p [] l = rw (reach-none p) l
@@ -39,10 +37,10 @@ reached-place p (b ∷ part) l =
     cases (p .stopped) (λ e. rw (reach-stopped p (b ∷ part) e) l)
     (λ e.
     cases (isTelling (withByte p b)) (λ t. rw (reach-tells p b part e t) l)
-    (λ t. rw (reach-on p b part e t) (reached-place (passed (withByte p b)) part (good-passed (withByte p b) l .0))))
+    (λ t. rw (reach-on p b part e t) (reached-place (passed (withByte p b)) part (passed-place (withByte p b) l))))
 
-pub good-after : (p : Position) (part : List ℕ) → Good p → Good (after p part)
-good-after p part g = good-passed (reach p part .position) (reached-place p part (g .0))
+pub between-after : (p : Position) (part : List ℕ) → BetweenCalls p → BetweenCalls (after p part)
+between-after p part g = between-passed (reach p part .position) (reached-place p part (g .place))
 
 pub taken-within : (p : Position) (part : List ℕ) → reach p part .taken ≤ length part
 taken-within p [] = rw (reach-none p) (omega arith)
@@ -52,63 +50,59 @@ taken-within p (b ∷ part) =
     cases (isTelling (withByte p b)) (λ t. rw (reach-tells p b part e t) (omega arith))
     (λ t. let h = taken-within (passed (withByte p b)) part in rw (reach-on p b part e t) (omega (arith, h))))
 
--- A form of state that gives back each position that it can hold.
-abbrev pub Faithful : {S : Type 0} → Form S → Type 0
-Faithful f = (p : Position) → Good p → f .view (f .write p) ≡ p
-
-module _ {S : Type 0} (f : Form S) (back : Faithful f) where
+module _ {S : Type 0} (f : Form S) {start : S} (keeps : Keeping f start) where
   -- One call: what it tells comes first, the rest is what its state tells of the bytes not taken.
-  pub record Steps (s : S) (part : List ℕ) (k : Step S) : Type 0 where
+  pub record OneCall (s : S) (part : List ℕ) (k : Step S) : Type 0 where
     pub flows :
         (later : List ℕ)
         → flow (f .view s) (part ++ later) ≡ ahead (listed (k .event)) (flow (f .view (k .state)) (drop (k .taken) part ++ later))
-    pub good : Good (f .view (k .state))
+    pub between : BetweenCalls (f .view (k .state))
     pub within : k .taken ≤ length part
 
-  pub call-steps : (s : S) (part : List ℕ) (room : ℕ) → Good (f .view s) → Steps s part (call f s part room)
+  pub call-steps : (s : S) (part : List ℕ) (room : ℕ) → BetweenCalls (f .view s) → OneCall s part (call f s part room)
   unfolding call
   call-steps s part room g =
       let p = f .view s in
-      let same = back (after p part) (good-after p part g) in
+      let same = keeps .back (after p part) (between-after p part g) in
       cases (isShort (told p part) room)
-      (λ e. rw e (record { flows = λ later. refl; good = g; within = omega arith }))
+      (λ e. rw e (record { flows = λ later. refl; between = g; within = omega arith }))
       (λ e.
       rw e
       (record {
         flows = λ later.
-          call-flow p part later (g .1)
-          ∙ ap (λ (q : Position). ahead (listed (told p part)) (flow q (drop (taken p part) part ++ later))) (sym same);
-        good = subst Good (sym same) (good-after p part g);
+            call-flow p part later (g .open-record)
+            ∙ ap (λ (q : Position). ahead (listed (told p part)) (flow q (drop (taken p part) part ++ later))) (sym same);
+        between = subst BetweenCalls (sym same) (between-after p part g);
         within = taken-within p part;
       }))
 
   -- All calls: likewise.
-  pub record Runs (s : S) (rest : List ℕ) (r : Run S) : Type 0 where
+  pub record AllCalls (s : S) (rest : List ℕ) (r : Run S) : Type 0 where
     pub flows : (later : List ℕ) → flow (f .view s) (rest ++ later) ≡ ahead (r .events) (flow (f .view (r .state)) (r .rest ++ later))
-    pub good : Good (f .view (r .state))
+    pub between : BetweenCalls (f .view (r .state))
 
-  pub calls-run : (cs : List Lent) (s : S) (rest : List ℕ) → Good (f .view s) → Runs s rest (callsOver f cs s rest)
+  pub calls-run : (cs : List Lent) (s : S) (rest : List ℕ) → BetweenCalls (f .view s) → AllCalls s rest (callsOver f cs s rest)
   unfolding callsOver
-  calls-run [] s rest g = record { flows = λ later. refl; good = g }
+  calls-run [] s rest g = record { flows = λ later. refl; between = g }
   calls-run (c ∷ cs) s rest g =
       let part = take (c .size) rest in
       let k = call f s part (c .room) in
       let step = call-steps s part (c .room) g in
-      let run = calls-run cs (k .state) (drop (k .taken) rest) (step .good) in
+      let run = calls-run cs (k .state) (drop (k .taken) rest) (step .between) in
       let front = take-append-drop (c .size) rest in
       let left : drop (k .taken) part ++ drop (c .size) rest ≡ drop (k .taken) rest =
       sym (drop-append-le (k .taken) part (drop (c .size) rest) (step .within)) ∙ ap (drop (k .taken)) front in
       record {
         flows = λ later.
-          let behind = drop (c .size) rest in
-          ap (λ (u : List ℕ). flow (f .view s) (u ++ later)) (sym front)
-          ∙ ap (flow (f .view s)) (append-assoc part behind later)
-          ∙ step .flows (behind ++ later)
-          ∙ ap (λ (u : List ℕ). ahead (listed (k .event)) (flow (f .view (k .state)) u))
-          (sym (append-assoc (drop (k .taken) part) behind later) ∙ ap (λ (u : List ℕ). u ++ later) left)
-          ∙ ap (ahead (listed (k .event))) (run .flows later)
-          ∙ ahead-ahead (listed (k .event)) (callsOver f cs (k .state) (drop (k .taken) rest) .events) _;
-        good = run .good;
+            let behind = drop (c .size) rest in
+            ap (λ (u : List ℕ). flow (f .view s) (u ++ later)) (sym front)
+            ∙ ap (flow (f .view s)) (append-assoc part behind later)
+            ∙ step .flows (behind ++ later)
+            ∙ ap (λ (u : List ℕ). ahead (listed (k .event)) (flow (f .view (k .state)) u))
+            (sym (append-assoc (drop (k .taken) part) behind later) ∙ ap (λ (u : List ℕ). u ++ later) left)
+            ∙ ap (ahead (listed (k .event))) (run .flows later)
+            ∙ ahead-ahead (listed (k .event)) (callsOver f cs (k .state) (drop (k .taken) rest) .events) _;
+        between = run .between;
       }
 
   -- Where all was read, or reading has stopped, what was left tells nothing.
@@ -117,22 +111,37 @@ module _ {S : Type 0} (f : Form S) (back : Faithful f) where
       let p = f .view (r .state) in
       ⊎-elim (λ e. ap (λ (u : List ℕ). flow p (u ++ later)) e) (λ e. flow-stopped p (r .rest ++ later) e ∙ sym (flow-stopped p later e)) a
 
-  -- Once reading has stopped it stays so.
-  stays-stopped : (s : S) (part : List ℕ) (room : ℕ) → Good (f .view s) → f .view s .stopped ≡ true → f .view (call f s part room .state) .stopped ≡ true
-  unfolding call
-  stays-stopped s part room g e =
-      let p = f .view s in
-      let same : after p part ≡ p = ap (λ (r : Reached). passed (r .position)) (reach-stopped p part e) ∙ open-passed p (g .1) in
-      let kept = back (after p part) (good-after p part g) ∙ same in
-      cases (isShort (told p part) room) (λ t. rw t e) (λ t. rw t (ap (λ (q : Position). q .stopped) kept ∙ e))
+  -- Once reading has stopped, no call takes or tells anything, and the position stays.
+  pub record Idle (s : S) (rest : List ℕ) (r : Run S) : Type 0 where
+    pub events : r .events ≡ []
+    pub left : r .rest ≡ rest
+    pub view : f .view (r .state) ≡ f .view s
 
-  run-stopped : (cs : List Lent) (s : S) (rest : List ℕ) → Good (f .view s) → f .view s .stopped ≡ true → f .view (callsOver f cs s rest .state) .stopped ≡ true
+  idle-call :
+      (s : S) (part : List ℕ) (room : ℕ)
+      → BetweenCalls (f .view s)
+      → f .view s .stopped ≡ true
+      → (call f s part room .event ≡ none) × (call f s part room .taken ≡ 0) × (f .view (call f s part room .state) ≡ f .view s)
+  unfolding call
+  idle-call s part room g e =
+      let p = f .view s in
+      let kept : f .view (f .write (passed p)) ≡ p =
+      let same = open-passed p (g .open-record) in ap (λ (q : Position). f .view (f .write q)) same ∙ keeps .back p g in
+      rw (reach-stopped p part e, open-event p (g .open-record)) (refl, ap (λ (r : Reached). r .taken) (reach-stopped p part e), kept)
+
+  pub idle : (cs : List Lent) (s : S) (rest : List ℕ) → BetweenCalls (f .view s) → f .view s .stopped ≡ true → Idle s rest (callsOver f cs s rest)
   unfolding callsOver
-  run-stopped [] s rest g e = e
-  run-stopped (c ∷ cs) s rest g e =
-      let part = take (c .size) rest in
-      let k = call f s part (c .room) in
-      run-stopped cs (k .state) (drop (k .taken) rest) (call-steps s part (c .room) g .good) (stays-stopped s part (c .room) g e)
+  idle [] s rest g e = record { events = refl; left = refl; view = refl }
+  idle (c ∷ cs) s rest g e =
+      let k = call f s (take (c .size) rest) (c .room) in
+      let one = idle-call s (take (c .size) rest) (c .room) g e in
+      let same = one .2 in
+      let later = idle cs (k .state) (drop (k .taken) rest) (subst BetweenCalls (sym same) g) (ap (λ (q : Position). q .stopped) same ∙ e) in
+      record {
+        events = (λ i. listed (one .0 i) ++ later .events i);
+        left = later .left ∙ ap (λ (n : ℕ). drop n rest) (one .1);
+        view = later .view ∙ same;
+      }
 
   -- A call with room for a frame takes a byte, if there is one and reading goes on.
   takes-one :
@@ -142,3 +151,88 @@ module _ {S : Type 0} (f : Form S) (back : Faithful f) where
       let p = f .view s in
       rw (never-short p (b ∷ part) room l)
       (cases (isTelling (withByte p b)) (λ t. rw (reach-tells p b part e t) (omega arith)) (λ t. rw (reach-on p b part e t) (omega arith)))
+
+  -- So calls as many as bytes take all of them, or reading stops.
+  pub enough :
+      (n size room : ℕ) (s : S) (rest : List ℕ)
+      → MostBytes ≤ room
+      → BetweenCalls (f .view s)
+      → length rest ≤ n
+      → length rest ≤ size
+      → AllRead f (callsOver f (replicate n (record { size = size; room = room })) s rest)
+  unfolding callsOver
+  enough zero size room s [] m g l k = inl refl
+  enough zero size room s (b ∷ rest) m g l k = absurd (not-suc-le-zero l)
+  enough (suc n) size room s [] m g l k =
+      let part : List ℕ = take size [] in
+      let step = call-steps s part room g in
+      let taken = call f s part room .taken in
+      let left = length-drop {A = ℕ} taken [] in
+      enough n size room (call f s part room .state) (drop taken []) m (step .between) (omega (arith, left)) (omega (arith, left))
+  enough (suc n) size room s (b ∷ rest) m g l k =
+      let part = take size (b ∷ rest) in
+      let taken = call f s part room .taken in
+      let step = call-steps s part room g in
+      cases (f .view s .stopped)
+      (λ e.
+      let still = idle (replicate (suc n) (record { size = size; room = room })) s (b ∷ rest) g e in
+      inr (ap (λ (q : Position). q .stopped) (still .view) ∙ e))
+      (λ e.
+      let some-taken : 1 ≤ taken =
+      subst (λ (u : List ℕ). 1 ≤ call f s u room .taken) (sym (take-all size (b ∷ rest) k)) (takes-one s b rest room m e) in
+      let left = length-drop taken (b ∷ rest) in
+      enough n size room (call f s part room .state) (drop taken (b ∷ rest)) m (step .between) (omega (arith, left, some-taken, l))
+      (omega (arith, left, k)))
+
+  -- Part after part: likewise, and nothing is left.
+  pub parts-rest : (room : ℕ) (parts : List (List ℕ)) (s : S) → partsFed f room parts s .rest ≡ []
+  unfolding partsFed
+  parts-rest room [] s = refl
+  parts-rest room (part ∷ parts) s = parts-rest room parts _
+
+  pub parts-run :
+      (room : ℕ) (parts : List (List ℕ)) (s : S)
+      → MostBytes ≤ room
+      → BetweenCalls (f .view s)
+      → AllCalls s (joinedParts parts) (partsFed f room parts s)
+  unfolding partsFed joinedParts
+  parts-run room [] s m g = record { flows = λ later. refl; between = g }
+  parts-run room (part ∷ parts) s m g =
+      let size = length part in
+      let calls : List Lent = replicate size (record { size = size; room = room }) in
+      let fed = callsOver f calls s part in
+      let all = enough size size room s part m g (omega arith) (omega arith) in
+      let run = calls-run calls s part g in
+      let behind = parts-run room parts (fed .state) m (run .between) in
+      record {
+        flows = λ later.
+            let joined = joinedParts parts ++ later in
+            ap (flow (f .view s)) (append-assoc part (joinedParts parts) later)
+            ∙ run .flows joined
+            ∙ ap (ahead (fed .events)) (read-through fed joined all ∙ behind .flows later)
+            ∙ ahead-ahead (fed .events) (partsFed f room parts (fed .state) .events) _;
+        between = behind .between;
+      }
+
+  -- A fresh state is between calls; calls from it that read all of a stream tell what it gives read at once.
+  pub fresh-between : BetweenCalls fresh
+  fresh-between = record { place = omega arith; open-record = no-bytes }
+
+  pub starts-fresh : f .view start ≡ fresh
+  starts-fresh = ap (f .view) (sym (keeps .starts)) ∙ keeps .back fresh fresh-between
+
+  pub start-between : BetweenCalls (f .view start)
+  start-between = subst BetweenCalls (sym starts-fresh) fresh-between
+
+  pub as-at-once : (s : List ℕ) (r : Run S) → AllCalls start s r → AllRead f r → AsAtOnce f s r
+  as-at-once s r run all =
+      let p = f .view (r .state) in
+      let at-once : wholeStream s ≡ ahead (r .events) (record { events = []; cut = endPlace p }) =
+      sym (whole-flow fresh s (length s) no-bytes refl (omega arith))
+      ∙ (λ i. flow (sym starts-fresh i) (sym (append-nil s) i))
+      ∙ run .flows []
+      ∙ ap (ahead (r .events)) (read-through r [] all ∙ flow-none p) in
+      record {
+        events = sym (ap (λ (w : Whole). w .events) at-once ∙ append-nil (r .events));
+        end = sym (ap (λ (w : Whole). w .cut) at-once);
+      }
