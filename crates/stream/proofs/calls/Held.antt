@@ -1,8 +1,7 @@
 -- What a state holds of the stream, whatever calls made it.
 use mathlib.Core.Path.{_≡_, refl, sym, ap, _∙_, subst}
-use mathlib.Core.Bool.{Bool, true, false}
 use mathlib.Core.List.{List, [], _∷_, _++_, append-assoc}
-use Prim.Native.Nat.{ℕ, _+_, _%_, _^_, _≤_, _<_}
+use Prim.Native.Nat.{ℕ, _+_, _%_, _^_}
 use native.Mathlib.Nat.{mod-add-mod}
 use native.Mathlib.Omega.{arith}
 use lib.ListN.{length, take, drop, length-append, take-append-drop}
@@ -10,9 +9,8 @@ use lib.Seq.{append-snoc, drop-append-le}
 use Rattle.frame.proofs.bytes.Laws.{cases}
 use Rattle.stream.specs.Record.{kindOf, partial}
 use Rattle.stream.specs.Stream.{placeBehind}
-use Rattle.stream.specs.Reader.{Position, fresh, withByte, passed, isTelling, Reached, reach, told, taken, after}
-use Rattle.stream.specs.State.{MostHeld}
-use Rattle.stream.specs.Calls.{Form, BetweenCalls, Keeping, isShort, call, Run, Lent, callsOver, HoldsBegun}
+use Rattle.stream.specs.Reader.{Position, withByte, passed, isTelling, reach, told, taken, after}
+use Rattle.stream.specs.Calls.{Form, BetweenCalls, Keeping, isShort, call, Lent, callsOver, HoldsBegun}
 use Rattle.stream.proofs.record.Laws.{size-within, part-size}
 use Rattle.stream.proofs.reader.Laws.{reach-none, reach-stopped, reach-tells, reach-on}
 use Rattle.stream.proofs.calls.Laws.{between-after, call-steps, starts-fresh, start-between}

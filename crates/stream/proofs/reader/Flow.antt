@@ -1,19 +1,18 @@
 -- A stream byte by byte, from any position: what joins one call to the stream read at once.
-use mathlib.Core.Path.{_≡_, refl, sym, ap, _∙_, subst}
+use mathlib.Core.Path.{_≡_, refl, sym, ap, _∙_}
 use mathlib.Core.Bool.{Bool, true, false, cond}
-use mathlib.Core.List.{List, [], _∷_, _++_, append-assoc, append-nil}
-use mathlib.Core.Option.{Option, none, some}
+use mathlib.Core.List.{List, [], _∷_, _++_, append-nil}
+use mathlib.Core.Option.{Option, none}
 use Prim.Native.Nat.{ℕ, zero, suc, _+_, _≤_, _<_}
 use native.Mathlib.Nat.{not-suc-le-zero}
 use native.Mathlib.Omega.{arith}
 use borrow.Author.Tests.{le-ltb}
-use lib.Dec.{eqb, ltb}
-use lib.ListN.{length, getD, take, drop, length-append, List·getD-append}
+use lib.ListN.{length, take, drop, length-append, List·getD-append}
 use lib.Seq.{append-snoc, take-at, drop-at}
 use Rattle.frame.proofs.bytes.Laws.{cases}
 use Rattle.stream.specs.Record.{kindOf, isUnknownKind, wholeSize, partial}
 use Rattle.stream.specs.Stream.{Event, placeBehind, eventOf, cutAt, Whole, nothingMore, listed, ahead, wholeFrom}
-use Rattle.stream.specs.Reader.{Position, withByte, passed, isTelling, eventAt, Reached, reach, told, taken, after, endPlace}
+use Rattle.stream.specs.Reader.{Position, withByte, passed, isTelling, eventAt, Reached, told, taken, after, endPlace}
 use Rattle.stream.proofs.record.Laws.{grown, no-bytes}
 use Rattle.stream.proofs.reader.Laws.{reach-none, reach-stopped, reach-tells, reach-on, passed-partial, not-told}
 

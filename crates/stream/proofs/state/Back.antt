@@ -2,14 +2,13 @@
 use mathlib.Core.Path.{_≡_, refl, sym, ap, _∙_}
 use mathlib.Core.Bool.{Bool, true, false, cond, not}
 use mathlib.Core.List.{List, [], _∷_, _++_}
-use Prim.Native.Nat.{ℕ, zero, suc, _+_, _-_, _*_, _/_, _%_, _^_, _<_}
+use Prim.Native.Nat.{ℕ, zero, suc, _+_, _-_, _*_, _/_, _%_, _^_}
 use native.Mathlib.Nat.{pow-suc, mul-comm, one-le-pow, mod-eq-of-lt, mod-one, add-mul, mul-assoc}
 use native.Mathlib.Omega.{arith}
 use lib.Arith.{mod-mul}
 use lib.Dec.{eqb}
 use lib.ListN.{length, getD, take, replicate}
 use lib.Seq.{take-at}
-use Rattle.stream.specs.Record.{partial}
 use Rattle.stream.specs.Reader.{Position, fresh, orNone}
 use Rattle.stream.specs.State.{PlaceBytes, MostHeld, numberIn, bigEndian, positionIn, bytesOf, freshBytes}
 use Rattle.stream.specs.Calls.{BetweenCalls, Keeping, byValue, byBytes}
