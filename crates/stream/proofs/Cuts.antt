@@ -16,8 +16,8 @@ use Rattle.stream.specs.Refusal.{StreamKindUnknown, StreamCut}
 use Rattle.stream.specs.Stream.{Event}
 use Rattle.stream.specs.Reader.{Position, fresh, told, outgrows, within, answered, endPlace, cutRefusal, endRefusal}
 use Rattle.stream.specs.State.{freshBytes}
-use Rattle.stream.specs.Calls.{Form, byValue, byBytes, Keeping, isShort, call, Lent, callsOver, AllRead, AsAtOnce, partsFed, joinedParts}
-use Rattle.stream.specs.Calls.{singles, HoldsBegun, NoMore}
+use Rattle.stream.specs.Calls.{Form, byValue, byBytes, isShort, call, Lent, callsOver, partsFed, joinedParts, singles}
+use Rattle.stream.specs.Cuts.{Keeping, AllRead, AsAtOnce, HoldsBegun, NoMore}
 use Rattle.stream.proofs.reader.Laws.{reach-none}
 use Rattle.stream.proofs.reader.Flow.{open-event, open-passed}
 use Rattle.stream.proofs.state.Back as back
@@ -38,8 +38,8 @@ joined-singles [] = refl
 joined-singles (b ∷ s) = ap (λ (u : List ℕ). b ∷ u) (joined-singles s)
 
 module _ {S : Type 0} (f : Form S) {start : S} (keeps : Keeping f start) where
-  -- "A reader that is fed part after part gives the same frames and refusals, in the same order, as if the stream had come at once,
-  -- however it was cut": whatever is lent to each call, as soon as all was read.
+  -- "gives the same frames and refusals, in the same order, as if the stream had come at once, however it was cut": whatever is lent to
+  -- each call, as soon as all was read.
   pub cuts-alike : (cs : List Lent) (s : List ℕ) → AllRead f (callsOver f cs start s) → AsAtOnce f s (callsOver f cs start s)
   cuts-alike cs s all = as-at-once f keeps s (callsOver f cs start s) (calls-run f keeps cs start s (start-between f keeps)) all
 

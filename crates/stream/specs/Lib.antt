@@ -4,4 +4,5 @@ pub mod Stream
 pub mod Reader
 pub mod State
 pub mod Calls
+pub mod Cuts
 pub mod Contracts

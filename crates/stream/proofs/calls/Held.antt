@@ -10,7 +10,8 @@ use Rattle.frame.proofs.bytes.Laws.{cases}
 use Rattle.stream.specs.Record.{kindOf, partial}
 use Rattle.stream.specs.Stream.{placeBehind}
 use Rattle.stream.specs.Reader.{Position, withByte, passed, isTelling, reach, told, taken, after}
-use Rattle.stream.specs.Calls.{Form, BetweenCalls, Keeping, isShort, call, Lent, callsOver, HoldsBegun}
+use Rattle.stream.specs.Calls.{Form, isShort, call, Lent, callsOver}
+use Rattle.stream.specs.Cuts.{BetweenCalls, Keeping, HoldsBegun}
 use Rattle.stream.proofs.record.Laws.{size-within, part-size}
 use Rattle.stream.proofs.reader.Laws.{reach-none, reach-stopped, reach-tells, reach-on}
 use Rattle.stream.proofs.calls.Laws.{between-after, call-steps, starts-fresh, start-between}

@@ -14,8 +14,8 @@ use Rattle.frame.proofs.bytes.Laws.{cases}
 use Rattle.stream.specs.Record.{partial}
 use Rattle.stream.specs.Stream.{Event, Whole, listed, ahead, wholeStream}
 use Rattle.stream.specs.Reader.{Position, fresh, withByte, passed, isTelling, Reached, reach, told, taken, after, endPlace}
-use Rattle.stream.specs.Calls.{Form, BetweenCalls, Keeping, isShort, Step, call, Run, Lent, callsOver, AllRead, AsAtOnce}
-use Rattle.stream.specs.Calls.{partsFed, joinedParts}
+use Rattle.stream.specs.Calls.{Form, isShort, Step, call, Run, Lent, callsOver, partsFed, joinedParts}
+use Rattle.stream.specs.Cuts.{BetweenCalls, Keeping, AllRead, AsAtOnce}
 use Rattle.stream.proofs.reader.Laws.{reach-none, reach-stopped, reach-tells, reach-on, passed-partial}
 use Rattle.stream.proofs.reader.Flow.{flow, flow-none, flow-stopped, open-event, open-passed, call-flow, whole-flow}
 use Rattle.stream.proofs.record.Laws.{no-bytes}

@@ -14,7 +14,8 @@ use Rattle.stream.specs.Refusal.{StreamKindUnknown, StreamRecordWrong}
 use Rattle.stream.specs.Record.{FrameKind, TickKind, kindOf, isUnknownKind, runsIn, runsFit, partial, tells}
 use Rattle.stream.specs.Stream.{Event, eventOf}
 use Rattle.stream.specs.Reader.{Position, passed, eventAt, reach, told, after, cutRefusal}
-use Rattle.stream.specs.Calls.{Form, BetweenCalls, Keeping, isShort, call, NoMore}
+use Rattle.stream.specs.Calls.{Form, isShort, call}
+use Rattle.stream.specs.Cuts.{BetweenCalls, Keeping, NoMore}
 use Rattle.stream.proofs.reader.Flow.{end-stopped}
 use Rattle.stream.proofs.calls.Laws.{between-after, idle}
 

@@ -11,7 +11,8 @@ use lib.ListN.{length, getD, take, replicate}
 use lib.Seq.{take-at}
 use Rattle.stream.specs.Reader.{Position, fresh, orNone}
 use Rattle.stream.specs.State.{PlaceBytes, MostHeld, numberIn, bigEndian, positionIn, bytesOf, freshBytes}
-use Rattle.stream.specs.Calls.{BetweenCalls, Keeping, byValue, byBytes}
+use Rattle.stream.specs.Calls.{byValue, byBytes}
+use Rattle.stream.specs.Cuts.{BetweenCalls, Keeping}
 
 -- The first byte counts most.
 number-first : (n b : ℕ) (s : List ℕ) → numberIn (suc n) (b ∷ s) ≡ b * 256 ^ n + numberIn n s
