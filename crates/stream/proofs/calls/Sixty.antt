@@ -34,7 +34,10 @@ unknown-kind r = go (eqb (kindOf r) TickKind) (eqb (kindOf r) FrameKind) (runsFi
     go false true false e = absurd (let z : _≡_ {A = ℕ} StreamRecordWrong StreamKindUnknown = cc in omega arith)
     go false false w e = refl
 
-told-of : (place : ℕ) (o : Option (Outcome Frame)) (e : Event) → Option·map (λ (x : Outcome Frame). record { place = place; told = x }) o ≡ some e → o ≡ some (e .told)
+told-of :
+    (place : ℕ) (o : Option (Outcome Frame)) (e : Event)
+    → Option·map (λ (x : Outcome Frame). record { place = place; told = x }) o ≡ some e
+    → o ≡ some (e .told)
 told-of place none e h = absurd (let z : _≡_ {A = ℕ} 0 1 = cc in omega arith)
 told-of place (some x) e h = let same : record { place = place; told = x } ≡ e = cc in ap (λ (y : Event). some (y .told)) same
 

@@ -22,13 +22,9 @@ use Rattle.stream.specs.Contracts.{standing, Stands, WholeRecord}
 use Rattle.stream.proofs.record.Laws.{size-frame, whole-size, fit-within, tells-unknown, tells-frame, first-size, second-size, runs-joined}
 use Rattle.stream.proofs.reader.Laws.{telling, not-told, is-told}
 
--- What is told, and the output left, in both of which a refusal is only its number.
-pub refused-told :
-    {e : Option (Outcome Frame)} {n : ℕ} (out : List ℕ) → e ≡ some (refused n) → (some (refused n) ≡ runsTold e) × (out ≡ outTold e out)
-refused-told {e} {n} out h = (ap runsTold (sym h), ap (λ (x : Option (Outcome Frame)). outTold x out) (sym h))
-
-pub nothing-told : {e : Option (Outcome Frame)} (out : List ℕ) → e ≡ none → (none ≡ runsTold e) × (out ≡ outTold e out)
-nothing-told out h = (ap runsTold (sym h), ap (λ (x : Option (Outcome Frame)). outTold x out) (sym h))
+-- What is told, and the output left, follow from the answer; of a frame, the lengths and runs may be given by others.
+pub told-so : {e o : Option (Outcome Frame)} (out : List ℕ) → e ≡ o → (runsTold o ≡ runsTold e) × (outTold o out ≡ outTold e out)
+told-so out h = (ap runsTold (sym h), ap (λ (x : Option (Outcome Frame)). outTold x out) (sym h))
 
 pub given-told :
     {e : Option (Outcome Frame)} {f : Frame} {first second : ℕ} {out′ : List ℕ} (out : List ℕ)
@@ -37,10 +33,8 @@ pub given-told :
     → second ≡ length (f .response)
     → out′ ≡ placed out 0 (f .first ++ f .response)
     → (_≡_ {A = Option (Outcome Runs)} (some (accepted (record { first = first; response = second }))) (runsTold e)) × (out′ ≡ outTold e out)
-given-told out h a b o = (
-  (λ i. some (accepted (record { first = a i; response = b i }))) ∙ ap runsTold (sym h),
-  o ∙ ap (λ (x : Option (Outcome Frame)). outTold x out) (sym h),
-)
+given-told out h a b o =
+    let so = told-so out h in ((λ i. some (accepted (record { first = a i; response = b i }))) ∙ so .0, o ∙ so .1)
 
 module _ (r : List ℕ) (room : ℕ) (w : WholeRecord r) where
   pub gives-unknown : (kindOf r ≡ FrameKind → ⊥) → Option·map (within room) (tells r) ≡ some (refused StreamKindUnknown)

@@ -8,9 +8,9 @@ use borrow.Author.Needs.{needs}
 use borrow.Author.Tests.{not-true, not-false}
 use lib.ListN.{length, take, drop}
 use Rattle.frame.specs.Bytes.{placed}
-use Rattle.stream.specs.Record.{FrameKind, kindOf, firstLength, secondLength, RunsAt, runsFit}
+use Rattle.stream.specs.Record.{FrameKind, FrameRecord, kindOf, firstLength, secondLength, RunsAt, runsFit}
 use Rattle.stream.proofs.record.Laws.{fit-within, first-size, second-size}
-use Rattle.stream.proofs.reader.Gives.{refused-told, given-told, gives-unknown, whole-frame, gives-wrong, gives-short, gives-frame, runs-placed}
+use Rattle.stream.proofs.reader.Gives.{told-so, given-told, gives-unknown, whole-frame, gives-wrong, gives-short, gives-frame, runs-placed}
 use Rattle.stream.proofs.reader.give.Statement.{statement}
 use Rattle.stream.proofs.reader.give.Tie as tie
 
@@ -18,7 +18,7 @@ returns : tie.Need-returns
 returns c =
     let start = c .before .before .before .before in
     let a = start .args in
-    refused-told (a .out .now)
+    told-so (a .out .now)
     (gives-unknown (a .bytes .now) (length (a .out .now)) (start .pre) (λ e. c .if1 .taken (c .before .byte-at .ensures ∙ e)))
 
 -- the kind is a frame's, and its record is whole
@@ -30,7 +30,7 @@ returns-2 c =
     let kind = c .before .before in
     let start = kind .before .before .before .before in
     let a = start .args in
-    refused-told (a .out .now)
+    told-so (a .out .now)
     (gives-wrong (a .bytes .now) (length (a .out .now)) (start .pre) (frame-kind kind)
     (sym (c .before .runs-fit .ensures) ∙ not-true _ (c .if2 .taken)))
 
@@ -44,7 +44,7 @@ module _ (c : tie.After-byte-at3) where
   fits : runsFit bytes ≡ true
   fits = sym (c .before .before .before .runs-fit .ensures) ∙ not-false _ (c .before .before .if2 .left)
 
-  whole : length bytes ≡ 15
+  whole : length bytes ≡ FrameRecord
   whole = whole-frame bytes 0 (kind .before .before .before .before .pre) (frame-kind kind)
 
   both : (c .before .byte-at2 .result + c .byte-at3 .result) ≡ firstLength bytes + secondLength bytes
@@ -54,7 +54,7 @@ returns-3 : tie.Need-returns-3
 returns-3 c =
     let start = kind (c .before) .before .before .before .before in
     let a = start .args in
-    refused-told (a .out .now)
+    told-so (a .out .now)
     (gives-short (a .bytes .now) (length (a .out .now)) (start .pre) (frame-kind (kind (c .before))) (fits (c .before))
     (omega (arith, c .if3 .taken, both (c .before))))
 

@@ -12,7 +12,7 @@ use Rattle.stream.specs.Reader.{Position, positionOf, isTelling, reach, 
 use Rattle.stream.specs.Contracts.{standing, Stands}
 use Rattle.stream.proofs.state.Laws.{open-position, begins}
 use Rattle.stream.proofs.reader.Laws.{telling-is}
-use Rattle.stream.proofs.reader.Gives.{nothing-told, answers-nothing, whole-reached, answers-record}
+use Rattle.stream.proofs.reader.Gives.{told-so, answers-nothing, whole-reached, answers-record}
 use Rattle.stream.proofs.reader.tell.Statement.{statement}
 use Rattle.stream.proofs.reader.tell.Tie as tie
 
@@ -38,7 +38,7 @@ returns : tie.Need-returns
 returns c =
     let reached = c .before .before .before .before in
     let a = reached .before .before .before .before .args in
-    nothing-told (a .out .now)
+    told-so (a .out .now)
     (answers-nothing (positionOf (a .state)) (a .part .now) (length (a .out .now)) (there reached)
     (sym (tells (c .before)) ∙ not-true _ (c .if1 .taken)))
 
