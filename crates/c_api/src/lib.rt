@@ -22,7 +22,7 @@ ghost use Rattle.frame.specs.Writer.{writeFrame};
 ghost use Rattle.frame.specs.Iso.{readIso, writeIso};
 ghost use Rattle.catalogue.specs.Supplement.{check};
 ghost use Rattle.report.specs.Answer.{j1850Answer, isoAnswer, sized, outAfter, reportedOf};
-ghost use Rattle.stream.specs.Reader.{answered, runsTold, outTold, toldOf, taken, after, endRefusal};
+ghost use Rattle.stream.specs.Reader.{toldWithin, runsTold, outTold, toldOf, taken, after, endRefusal};
 ghost use Rattle.stream.specs.State.{positionIn, bytesOf};
 ghost use Rattle.c_api.specs.Words.{readWord, writeWord, checkWord, reportWord, streamWord};
 ghost use Rattle.c_api.specs.Contracts.{SmallSizes, SmallRuns, SmallAnswer, SmallTold};
@@ -165,8 +165,8 @@ pub extern "C" fn rakhubole_stream_read(
     part: &[u8],
     out: &mut [u8],
 ) -> u64
-    ensures told { λ r. ⌜ r ≡ streamWord (runsTold (answered (positionIn (now (state .entry))) (now (part .entry)) (length (now (out .entry))))) ⌝ }
-    ensures left { λ r. ⌜ now (out .exit) ≡ outTold (answered (positionIn (now (state .entry))) (now (part .entry)) (length (now (out .entry)))) (now (out .entry)) ⌝ }
+    ensures told { λ r. ⌜ r ≡ streamWord (runsTold (toldWithin (positionIn (now (state .entry))) (now (part .entry)) (length (now (out .entry))))) ⌝ }
+    ensures left { λ r. ⌜ now (out .exit) ≡ outTold (toldWithin (positionIn (now (state .entry))) (now (part .entry)) (length (now (out .entry)))) (now (out .entry)) ⌝ }
 {
     let bytes = *state;
     stream_word(tell(state_of(bytes), part, out))

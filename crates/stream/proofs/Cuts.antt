@@ -14,7 +14,7 @@ use Rattle.frame.specs.Refusal.{refused, OutputShort}
 use Rattle.frame.proofs.bytes.Laws.{cases}
 use Rattle.stream.specs.Refusal.{StreamKindUnknown, StreamCut}
 use Rattle.stream.specs.Stream.{Event}
-use Rattle.stream.specs.Reader.{Position, fresh, told, outgrows, within, answered, endPlace, cutRefusal, endRefusal}
+use Rattle.stream.specs.Reader.{Position, fresh, told, outgrows, within, toldWithin, endPlace, cutRefusal, endRefusal}
 use Rattle.stream.specs.State.{freshBytes}
 use Rattle.stream.specs.Calls.{Form, byValue, byBytes, isShort, call, Lent, callsOver, partsFed, joinedParts, singles}
 use Rattle.stream.specs.Cuts.{Keeping, AllRead, AsAtOnce, HoldsBegun, NoMore}
@@ -86,7 +86,7 @@ module _ {S : Type 0} (f : Form S) {start : S} (keeps : Keeping f start) where
 -- What a call tells, in the answer of the telling call: 8 where the output is shorter than the runs, and then the step takes nothing.
 pub call-answers :
     (p : Position) (part : List ℕ) (room : ℕ)
-    → answered p part room
+    → toldWithin p part room
     ≡ cond (isShort (told p part) room) (some (refused OutputShort)) (Option·map (λ (e : Event). e .told) (told p part))
 call-answers p part room = go (told p part)
   where

@@ -14,7 +14,7 @@ use Rattle.frame.specs.Refusal.{Outcome, refused, accepted, outcome, NoRefusal,
 use Rattle.stream.specs.Refusal.{StreamKindUnknown, StreamRecordWrong}
 use Rattle.stream.specs.Record.{FrameKind, TickKind, kindOf, firstLength, secondLength, RunsAt, runsIn, runsFit, partial, tells}
 use Rattle.stream.specs.Stream.{Event}
-use Rattle.stream.specs.Reader.{Position, eventAt, outgrows, within, answered, told, reach}
+use Rattle.stream.specs.Reader.{Position, eventAt, outgrows, within, toldWithin, told, reach}
 use Rattle.stream.specs.Calls.{isShort}
 use Rattle.frame.specs.Count.{countRules}
 use Rattle.frame.specs.Reader.{readRulesWith, readRules, readRefusal, partsOf, readFrame}
@@ -70,7 +70,7 @@ event-fits p = go (partial (p .begun)) (tells (p .begun)) (record-fits (p .begun
     go false (some o) w = w
 
 -- "a frame that is given has two runs of at most twelve bytes together"
-pub given-within : (p : Position) (part : List ℕ) (room : ℕ) (f : Frame) → answered p part room ≡ some (accepted f) → frameSize f ≤ MostBytes
+pub given-within : (p : Position) (part : List ℕ) (room : ℕ) (f : Frame) → toldWithin p part room ≡ some (accepted f) → frameSize f ≤ MostBytes
 given-within p part room f e =
     subst AllFits e (go (told p part) (event-fits (reach p part .position)))
   where
@@ -119,7 +119,7 @@ iso-size run e =
 
 pub never-too-long :
     (p : Position) (part : List ℕ) (room : ℕ) (f : Frame)
-    → answered p part room ≡ some (accepted f)
+    → toldWithin p part room ≡ some (accepted f)
     → (readFrame (f .first) (f .response) ≡ refused TooLong → ⊥) × (readIso (f .first) ≡ refused TooLong → ⊥)
 never-too-long p part room f e =
     let few = given-within p part room f e in (

@@ -22,7 +22,7 @@ abbrev pub standing : StreamState → Position
 standing s = record { place = s .place; stopped = s .stopped; begun = take (s .count) (s .held) }
 
 -- A state stands at a position.
-pub record Stands (s : StreamState) (p : Position) : Type 0 where
+pub record StandsAt (s : StreamState) (p : Position) : Type 0 where
   pub position : standing s ≡ p
   pub room : length (s .held) ≡ FrameRecord
   pub within : s .count ≤ FrameRecord
@@ -30,7 +30,7 @@ pub record Stands (s : StreamState) (p : Position) : Type 0 where
 -- What a call takes, and where its state stands, are what it reaches.
 pub record Reaches (a : Advanced) (r : Reached) : Type 0 where
   pub taken : a .taken ≡ r .taken
-  pub stands : Stands (a .state) (r .position)
+  pub stands : StandsAt (a .state) (r .position)
 
 -- A whole record that is no tick.
 pub record WholeRecord (r : List ℕ) : Type 0 where
@@ -43,7 +43,7 @@ abbrev pub further : ℕ → Reached → Reached
 further i r = record { position = r .position; taken = i + r .taken }
 
 pub record Going (p : Position) (part : List ℕ) (s : StreamState) (i : ℕ) : Type 0 where
-  pub stands : Stands s (standing s)
+  pub stands : StandsAt s (standing s)
   pub open-record : partial (standing s .begun) ≡ true
   pub goes-on : s .stopped ≡ false
   pub reached : reach p part ≡ further i (reach (standing s) (drop i part))

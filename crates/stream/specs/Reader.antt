@@ -75,8 +75,8 @@ outgrows (accepted f) room = ltb room (frameSize f)
 abbrev pub within : ℕ → Outcome Frame → Outcome Frame
 within room o = cond (outgrows o room) (refused OutputShort) o
 
-abbrev pub answered : Position → List ℕ → ℕ → Option (Outcome Frame)
-answered p part room = Option·map (λ (e : Event). within room (e .told)) (told p part)
+abbrev pub toldWithin : Position → List ℕ → ℕ → Option (Outcome Frame)
+toldWithin p part room = Option·map (λ (e : Event). within room (e .told)) (told p part)
 
 -- What is handed over of it: the length of each run; and the lent output afterwards.
 abbrev pub runsTold : Option (Outcome Frame) → Option (Outcome Runs)

@@ -27,11 +27,11 @@ abbrev pub cutAt : ℕ → List ℕ → Option ℕ
 cutAt place r = cond (eqb (length r) 0) none (some place)
 
 -- All that a stream gives: the events in their order, and the place of the record that its end cuts.
-pub record Whole : Type 0 where
+pub record Yield : Type 0 where
   pub events : List Event
   pub cut : Option ℕ
 
-abbrev pub nothingMore : Whole
+abbrev pub nothingMore : Yield
 nothingMore = record { events = []; cut = none }
 
 -- No event or one, as a list; and events before others.
@@ -39,12 +39,12 @@ abbrev pub listed : Option Event → List Event
 listed none = []
 listed (some e) = e ∷ []
 
-abbrev pub ahead : List Event → Whole → Whole
+abbrev pub ahead : List Event → Yield → Yield
 ahead es w = record { events = es ++ w .events; cut = w .cut }
 
 -- From a place on, with as many turns as there are bytes, since no record is empty: "after 60 no more is read or given, after 61
 -- reading goes on at the next record".
-unfoldable pub wholeFrom : ℕ → ℕ → List ℕ → Whole
+unfoldable pub wholeFrom : ℕ → ℕ → List ℕ → Yield
 wholeFrom zero place s = nothingMore
 wholeFrom (suc n) place s =
     let size = wholeSize (kindOf s) in
@@ -52,5 +52,5 @@ wholeFrom (suc n) place s =
     (ahead (listed (eventOf place (take size s)))
     (cond (isUnknownKind (kindOf s)) nothingMore (wholeFrom n (placeBehind place size) (drop size s))))
 
-abbrev pub wholeStream : List ℕ → Whole
+abbrev pub wholeStream : List ℕ → Yield
 wholeStream s = wholeFrom (length s) 0 s

@@ -25,9 +25,9 @@ ghost use lib.ListN.{length};
 ghost use Rattle.frame.specs.Bytes.{placed};
 ghost use Rattle.stream.specs.Record.{FrameRecord, isUnknownKind, partial, tells};
 ghost use Rattle.stream.specs.Stream.{placeBehind};
-ghost use Rattle.stream.specs.Reader.{positionOf, passed, reach, taken, after, answered};
+ghost use Rattle.stream.specs.Reader.{positionOf, passed, reach, taken, after, toldWithin};
 ghost use Rattle.stream.specs.Reader.{within, runsTold, outTold, toldOf, advancedOf, endRefusal};
-ghost use Rattle.stream.specs.Contracts.{isOpen, isToTell, Stands, standing, Reaches, WholeRecord};
+ghost use Rattle.stream.specs.Contracts.{isOpen, isToTell, StandsAt, standing, Reaches, WholeRecord};
 
 // What a call tells of the part: a refusal's number, or the length of each run of the frame that it gives.
 pub enum Told {
@@ -70,7 +70,7 @@ fn stopped_behind(stopped: bool, count: usize, kind: u8) -> bool
 // Behind a whole record: the state at the next, stopped if the kind is unknown.
 fn passed(state: StreamState) -> StreamState
     requires { ⌜ state .count ≤ FrameRecord ⌝ }
-    ensures { λ r. ⌜ Stands r (passed (standing state)) ⌝ }
+    ensures { λ r. ⌜ StandsAt r (passed (standing state)) ⌝ }
 {
     let held = state.held;
     let kind = held[0];
@@ -108,7 +108,7 @@ fn place_there(telling: bool, place: u64, count: usize, kind: u8) -> u64
 // The part up to the end of the first record that is no tick, or all of it; none of it once reading has stopped. There is one way
 // through, with scalars and one array: where two ways meet, an array is copied.
 fn reach(begun: StreamState, part: &[u8]) -> Advanced
-    requires { ⌜ Stands begun (standing begun) × (partial (standing begun .begun) ≡ true) ⌝ }
+    requires { ⌜ StandsAt begun (standing begun) × (partial (standing begun .begun) ≡ true) ⌝ }
     ensures { λ r. ⌜ Reaches r (reach (standing begun) (now (part .entry))) ⌝ }
 {
     let mut place = begun.place;
@@ -172,8 +172,8 @@ fn give(bytes: &[u8], out: &mut [u8]) -> Told
 
 // Tells what comes first in the part: the state is not moved.
 pub fn tell(state: StreamState, part: &[u8], out: &mut [u8]) -> Told
-    ensures told { λ r. ⌜ toldOf r ≡ runsTold (answered (positionOf state) (now (part .entry)) (length (now (out .entry)))) ⌝ }
-    ensures left { λ r. ⌜ now (out .exit) ≡ outTold (answered (positionOf state) (now (part .entry)) (length (now (out .entry)))) (now (out .entry)) ⌝ }
+    ensures told { λ r. ⌜ toldOf r ≡ runsTold (toldWithin (positionOf state) (now (part .entry)) (length (now (out .entry)))) ⌝ }
+    ensures left { λ r. ⌜ now (out .exit) ≡ outTold (toldWithin (positionOf state) (now (part .entry)) (length (now (out .entry)))) (now (out .entry)) ⌝ }
 {
     let reached = reach(sound(state), part);
     let there = reached.state;

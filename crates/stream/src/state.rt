@@ -8,7 +8,7 @@ ghost use lib.ListN.{drop, replicate};
 ghost use mathlib.Core.Bool.{cond};
 ghost use Rattle.stream.specs.Reader.{positionOf};
 ghost use Rattle.stream.specs.State.{PlaceBytes, HeldAt, MostHeld, numberIn, bigEndian, positionIn, bytesOf};
-ghost use Rattle.stream.specs.Contracts.{isOpen, Stands};
+ghost use Rattle.stream.specs.Contracts.{isOpen, StandsAt};
 
 // Bytes 0 to 7 the place, byte 8 stopped, byte 9 the count, bytes 10 to 23 the bytes held.
 pub const STATE_BYTES: usize = 24;
@@ -46,7 +46,7 @@ pub(crate) fn partial_count(count: usize, kind: u8) -> usize
 
 // The state with no bytes where it holds some that no partial record has.
 pub(crate) fn sound(state: StreamState) -> StreamState
-    ensures { λ r. ⌜ Stands r (positionOf state) ⌝ }
+    ensures { λ r. ⌜ StandsAt r (positionOf state) ⌝ }
 {
     let held = state.held;
     StreamState {

@@ -4,13 +4,13 @@ use Prim.Native.Nat.{ℕ}
 use mathlib.Core.List.{List, [], _∷_, _++_}
 use mathlib.Core.Option.{Option, none, some}
 use Rattle.frame.specs.Refusal.{refused, accepted}
-use Rattle.stream.specs.Stream.{Event, Whole}
+use Rattle.stream.specs.Stream.{Event, Yield}
 
-pub record Case : Type 0 where
+pub record StreamCase : Type 0 where
   pub stream : List ℕ
-  pub gives : Whole
+  pub gives : Yield
 
-abbrev pub case : List ℕ → List Event → Option ℕ → Case
+abbrev pub case : List ℕ → List Event → Option ℕ → StreamCase
 case s events cut = record { stream = s; gives = record { events = events; cut = cut } }
 
 abbrev pub frame : ℕ → List ℕ → List ℕ → Event
@@ -34,7 +34,7 @@ frameRecord = 1 ∷ 7 ∷ 0 ∷ (sevenBytes ++ 0 ∷ 0 ∷ 0 ∷ 0 ∷ 0 ∷ [])
 abbrev pub twelveBytes : List ℕ
 twelveBytes = 1 ∷ 2 ∷ 3 ∷ 4 ∷ 5 ∷ 6 ∷ 7 ∷ 8 ∷ 9 ∷ 10 ∷ 11 ∷ 12 ∷ []
 
-unfoldable pub streamCases : List Case
+unfoldable pub streamCases : List StreamCase
 streamCases =
     -- no bytes; a tick; a frame; one behind a tick
     case [] [] none

@@ -5,7 +5,7 @@ use borrow.Author.Needs.{needs}
 use lib.ListN.{length}
 use Rattle.frame.specs.Frame.{Frame}
 use Rattle.frame.specs.Refusal.{Outcome}
-use Rattle.stream.specs.Reader.{Position, positionOf, answered, runsTold, outTold}
+use Rattle.stream.specs.Reader.{Position, positionOf, toldWithin, runsTold, outTold}
 use Rattle.stream.specs.State.{positionIn}
 use Rattle.stream.proofs.Given.{given-within}
 use Rattle.c_api.specs.Words.{streamWord}
@@ -16,7 +16,7 @@ use Rattle.c_api.proofs.rakhubole_stream_read.Tie as tie
 -- what the state that the 24 bytes are answers
 module _ (c : tie.After-tell) where
   abbrev answer : Position → Option (Outcome Frame)
-  answer p = let a = c .before .before .before .before .before .before .args in answered p (a .part .now) (length (a .out .now))
+  answer p = let a = c .before .before .before .before .before .before .args in toldWithin p (a .part .now) (length (a .out .now))
 
   same : answer (positionOf (c .before .before .state-of .result)) ≡ answer (positionIn (c .before .before .before .before .before .before .args .state .now))
   same = ap answer (c .before .before .state-of .ensures)
@@ -28,7 +28,7 @@ stream-word-requires c κs =
     let p = positionIn (a .state .now) in
     let part = a .part .now in
     let room = length (a .out .now) in
-    small-told (answered p part room) (given-within p part room) _ (told .tell .ensures .0 ∙ ap runsTold (same told))
+    small-told (toldWithin p part room) (given-within p part room) _ (told .tell .ensures .0 ∙ ap runsTold (same told))
 
 returns : tie.Need-returns
 returns c =

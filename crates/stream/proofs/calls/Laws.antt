@@ -12,7 +12,7 @@ use lib.Seq.{drop-append-le, take-all}
 use Rattle.frame.specs.Frame.{MostBytes}
 use Rattle.frame.proofs.bytes.Laws.{cases}
 use Rattle.stream.specs.Record.{partial}
-use Rattle.stream.specs.Stream.{Event, Whole, listed, ahead, wholeStream}
+use Rattle.stream.specs.Stream.{Event, Yield, listed, ahead, wholeStream}
 use Rattle.stream.specs.Reader.{Position, fresh, withByte, passed, isTelling, Reached, reach, told, taken, after, endPlace}
 use Rattle.stream.specs.Calls.{Form, isShort, Step, call, Run, Lent, callsOver, partsFed, joinedParts}
 use Rattle.stream.specs.Cuts.{BetweenCalls, Keeping, AllRead, AsAtOnce}
@@ -21,7 +21,7 @@ use Rattle.stream.proofs.reader.Flow.{flow, flow-none, flow-stopped, op
 use Rattle.stream.proofs.record.Laws.{no-bytes}
 use Rattle.stream.proofs.Given.{never-short}
 
-ahead-ahead : (es fs : List Event) (w : Whole) → ahead es (ahead fs w) ≡ ahead (es ++ fs) w
+ahead-ahead : (es fs : List Event) (w : Yield) → ahead es (ahead fs w) ≡ ahead (es ++ fs) w
 ahead-ahead es fs w = (λ i. record { events = sym (append-assoc es fs (w .events)) i; cut = w .cut })
 
 passed-place : (p : Position) → p .place < 2 ^ 64 → passed p .place < 2 ^ 64
@@ -233,6 +233,6 @@ module _ {S : Type 0} (f : Form S) {start : S} (keeps : Keeping f start) where
       ∙ run .flows []
       ∙ ap (ahead (r .events)) (read-through r [] all ∙ flow-none p) in
       record {
-        events = sym (ap (λ (w : Whole). w .events) at-once ∙ append-nil (r .events));
-        end = sym (ap (λ (w : Whole). w .cut) at-once);
+        events = sym (ap (λ (w : Yield). w .events) at-once ∙ append-nil (r .events));
+        end = sym (ap (λ (w : Yield). w .cut) at-once);
       }

@@ -11,12 +11,12 @@ use lib.ListN.{length, take, drop, length-append, List·getD-append}
 use lib.Seq.{append-snoc, take-at, drop-at}
 use Rattle.frame.proofs.bytes.Laws.{cases}
 use Rattle.stream.specs.Record.{kindOf, isUnknownKind, wholeSize, partial}
-use Rattle.stream.specs.Stream.{Event, placeBehind, eventOf, cutAt, Whole, nothingMore, listed, ahead, wholeFrom}
+use Rattle.stream.specs.Stream.{Event, placeBehind, eventOf, cutAt, Yield, nothingMore, listed, ahead, wholeFrom}
 use Rattle.stream.specs.Reader.{Position, withByte, passed, isTelling, eventAt, Reached, told, taken, after, endPlace}
 use Rattle.stream.proofs.record.Laws.{grown, no-bytes}
 use Rattle.stream.proofs.reader.Laws.{reach-none, reach-stopped, reach-tells, reach-on, passed-partial, not-told}
 
-unfoldable pub flow : Position → List ℕ → Whole
+unfoldable pub flow : Position → List ℕ → Yield
 flow p [] = record { events = []; cut = endPlace p }
 flow p (b ∷ s) = cond (p .stopped) nothingMore (ahead (listed (eventAt (withByte p b))) (flow (passed (withByte p b)) s))
 
@@ -50,7 +50,7 @@ still : (p : Position) (s : List ℕ) → partial (p .begun) ≡ true → flow p
 still p s o = sym (λ i. ahead (listed (open-event p o i)) (flow (open-passed p o i) s))
 
 -- What is told where a call stops comes first; the rest is what is told behind it of the bytes not taken.
-abbrev follows : Reached → List ℕ → List ℕ → Whole
+abbrev follows : Reached → List ℕ → List ℕ → Yield
 follows r part later = ahead (listed (eventAt (r .position))) (flow (passed (r .position)) (drop (r .taken) part ++ later))
 
 pub call-flow :

@@ -17,8 +17,8 @@ use Rattle.stream.specs.Refusal.{StreamKindUnknown, StreamRecordWrong}
 use Rattle.stream.specs.Record.{FrameKind, FrameRecord, kindOf, firstLength, secondLength, RunsAt, runsIn, runsFit, tells}
 use Rattle.stream.specs.declared.state.StreamState.{StreamState}
 use Rattle.stream.specs.Stream.{Event}
-use Rattle.stream.specs.Reader.{Position, isTelling, eventAt, reach, within, answered, runsTold, outTold}
-use Rattle.stream.specs.Contracts.{standing, Stands, WholeRecord}
+use Rattle.stream.specs.Reader.{Position, isTelling, eventAt, reach, within, toldWithin, runsTold, outTold}
+use Rattle.stream.specs.Contracts.{standing, StandsAt, WholeRecord}
 use Rattle.stream.proofs.record.Laws.{size-frame, whole-size, fit-within, tells-unknown, tells-frame, first-size, second-size, runs-joined}
 use Rattle.stream.proofs.reader.Laws.{telling, not-told, is-told}
 
@@ -73,8 +73,8 @@ module _ (r : List ℕ) (room : ℕ) (w : WholeRecord r) where
       runs-placed out = ap (placed out 0) (sym (runs-joined r whole-frame (fit-within r e)))
 
 -- What a call answers, from the state that it reaches.
-module _ (p : Position) (part : List ℕ) (room : ℕ) {s : StreamState} (w : Stands s (reach p part .position)) where
-  pub answers-nothing : isTelling (standing s) ≡ false → answered p part room ≡ none
+module _ (p : Position) (part : List ℕ) (room : ℕ) {s : StreamState} (w : StandsAt s (reach p part .position)) where
+  pub answers-nothing : isTelling (standing s) ≡ false → toldWithin p part room ≡ none
   answers-nothing t =
       ap (Option·map (λ (e : Event). within room (e .told))) (not-told (reach p part .position) (ap isTelling (sym (w .position)) ∙ t))
 
@@ -88,7 +88,7 @@ module _ (p : Position) (part : List ℕ) (room : ℕ) {s : StreamState} (w : St
           no-tick = told .1;
         }
 
-    pub answers-record : answered p part room ≡ Option·map (within room) (tells (standing s .begun))
+    pub answers-record : toldWithin p part room ≡ Option·map (within room) (tells (standing s .begun))
     answers-record =
         ap (λ (q : Position). Option·map (λ (e : Event). within room (e .told)) (eventAt q)) (sym (w .position))
         ∙ ap (Option·map (λ (e : Event). within room (e .told))) (is-told (standing s) t)

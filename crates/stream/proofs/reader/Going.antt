@@ -13,20 +13,20 @@ use Rattle.stream.specs.declared.state.StreamState.{StreamState}
 use Rattle.stream.specs.Record.{kindOf, partial}
 use Rattle.stream.specs.Stream.{placeBehind}
 use Rattle.stream.specs.Reader.{Position, Reached, withByte, passed, isTelling, oneMore, reach}
-use Rattle.stream.specs.Contracts.{isOpen, isToTell, standing, Stands, Reaches, further, Going, OnTheWay}
+use Rattle.stream.specs.Contracts.{isOpen, isToTell, standing, StandsAt, Reaches, further, Going, OnTheWay}
 use Rattle.stream.proofs.reader.Laws.{stands-on, telling-is, reach-none, reach-stopped, reach-tells, reach-on, passed-partial, passed-on}
 
 -- Once reading has stopped nothing is taken.
 pub stays :
     (s : StreamState) (part : List ℕ)
-    → Stands s (standing s)
+    → StandsAt s (standing s)
     → s .stopped ≡ true
     → Reaches (record { taken = 0; state = s }) (reach (standing s) part)
 stays s part w e = subst (Reaches (record { taken = 0; state = s })) (sym (reach-stopped (standing s) part e)) (record { taken = refl; stands = w })
 
 pub going-begins :
     (s : StreamState) (part : List ℕ)
-    → Stands s (standing s)
+    → StandsAt s (standing s)
     → partial (standing s .begun) ≡ true
     → s .stopped ≡ false
     → Going (standing s) part s 0
@@ -48,7 +48,7 @@ module _ {p : Position} {part : List ℕ} {s : StreamState} {i : ℕ} (g : Going
       g .reached ∙ ap (λ (u : List ℕ). further i (reach (standing s) u)) (drop-of-length-le part {i = i} l) ∙ ap (further i) (reach-none (standing s)) in
       subst (Reaches (record { taken = i; state = s })) (sym none) (record { taken = omega arith; stands = g .stands })
 
-  module _ (l : i < length part) {s′ : StreamState} (w : Stands s′ (withByte (standing s) (getD part i 0))) where
+  module _ (l : i < length part) {s′ : StreamState} (w : StandsAt s′ (withByte (standing s) (getD part i 0))) where
     pub going-tells : isTelling (standing s′) ≡ true → Reaches (record { taken = i + 1; state = s′ }) (reach p part)
     going-tells t =
         let b = getD part i 0 in
@@ -60,7 +60,7 @@ module _ {p : Position} {part : List ℕ} {s : StreamState} {i : ℕ} (g : Going
         subst (Reaches (record { taken = i + 1; state = s′ })) (sym there) (record { taken = refl; stands = w })
 
     pub going-on :
-        {s″ : StreamState} → isTelling (standing s′) ≡ false → Stands s″ (passed (standing s′)) → Going p part s″ (i + 1)
+        {s″ : StreamState} → isTelling (standing s′) ≡ false → StandsAt s″ (passed (standing s′)) → Going p part s″ (i + 1)
     going-on {s″} t v =
         let b = getD part i 0 in
         let q = withByte (standing s) b in
@@ -87,7 +87,7 @@ module _ {p : Position} {part : List ℕ} {s : StreamState} {i : ℕ} (g : Going
 -- From the beginning: nothing is ahead once reading has stopped.
 pub way-begins :
     (s : StreamState) (part : List ℕ) {end : ℕ}
-    → Stands s (standing s)
+    → StandsAt s (standing s)
     → partial (standing s .begun) ≡ true
     → end ≡ cond (s .stopped) 0 (length part)
     → OnTheWay (standing s) part s 0 end
@@ -108,7 +108,7 @@ pub way-on :
     → Going p part s i × (end ≡ length part)
     → i < length part
     → {s′ : StreamState}
-    → Stands s′ (withByte (standing s) (getD part i 0))
+    → StandsAt s′ (withByte (standing s) (getD part i 0))
     → {t : Bool} {place count end′ : ℕ}
     → t ≡ isToTell (s′ .count) (kindOf (s′ .held))
     → place ≡ cond t (s′ .place) (cond (isOpen (s′ .count) (kindOf (s′ .held))) (s′ .place) (placeBehind (s′ .place) (s′ .count)))

@@ -14,7 +14,7 @@ use Rattle.stream.specs.declared.state.StreamState.{StreamState}
 use Rattle.stream.specs.Record.{FrameRecord, TickKind, kindOf, isUnknownKind, partial}
 use Rattle.stream.specs.Stream.{placeBehind, eventOf}
 use Rattle.stream.specs.Reader.{Position, withByte, passed, isTelling, eventAt, oneMore, reach, endPlace, endRefusal}
-use Rattle.stream.specs.Contracts.{isOpen, isToTell, standing, Stands}
+use Rattle.stream.specs.Contracts.{isOpen, isToTell, standing, StandsAt}
 use Rattle.frame.specs.Refusal.{NoRefusal}
 use Rattle.frame.proofs.bytes.Laws.{cases}
 use Rattle.stream.specs.Refusal.{StreamCut}
@@ -25,7 +25,7 @@ module _ (s : StreamState) (room : length (s .held) ≡ FrameRecord) where
   pub stands-more :
       (b : ℕ)
       → s .count < FrameRecord
-      → Stands (record { place = s .place; stopped = s .stopped; count = s .count + 1; held = set (s .held) (s .count) b }) (withByte (standing s) b)
+      → StandsAt (record { place = s .place; stopped = s .stopped; count = s .count + 1; held = set (s .held) (s .count) b }) (withByte (standing s) b)
   stands-more b l =
       record {
         position =
@@ -39,7 +39,7 @@ module _ (s : StreamState) (room : length (s .held) ≡ FrameRecord) where
   open-held t e = partial-of (s .held) (s .count) room ∙ sym e
 
   -- A partial record is not passed; a whole one is left behind.
-  pub stands-partial : true ≡ isOpen (s .count) (kindOf (s .held)) → s .count ≤ FrameRecord → Stands s (passed (standing s))
+  pub stands-partial : true ≡ isOpen (s .count) (kindOf (s .held)) → s .count ≤ FrameRecord → StandsAt s (passed (standing s))
   unfolding passed
   stands-partial e l = record { position = rw (open-held true e); room = room; within = l }
 
@@ -49,7 +49,7 @@ module _ (s : StreamState) (room : length (s .held) ≡ FrameRecord) where
       → s .count ≤ FrameRecord
       → place ≡ placeBehind (s .place) (s .count)
       → t ≡ isUnknownKind (kindOf (s .held))
-      → Stands (record { place = place; stopped = t; count = 0; held = s .held }) (passed (standing s))
+      → StandsAt (record { place = place; stopped = t; count = 0; held = s .held }) (passed (standing s))
   unfolding passed
   stands-behind e l p u =
       let size = length-take-le (s .count) (s .held) (omega (arith, room, l)) in
@@ -74,7 +74,7 @@ module _ (s : StreamState) (room : length (s .held) ≡ FrameRecord) where
       → place ≡ cond (isOpen (s .count) (kindOf (s .held))) (s .place) (placeBehind (s .place) (s .count))
       → t ≡ cond (isOpen (s .count) (kindOf (s .held))) (s .stopped) (isUnknownKind (kindOf (s .held)))
       → count ≡ cond (isOpen (s .count) (kindOf (s .held))) (s .count) 0
-      → Stands (record { place = place; stopped = t; count = count; held = s .held }) (passed (standing s))
+      → StandsAt (record { place = place; stopped = t; count = count; held = s .held }) (passed (standing s))
   stands-passed {place} {count} {t} l p u n =
       cases (isOpen (s .count) (kindOf (s .held)))
       (λ e. moved (s .place) (s .stopped) (s .count) (p ∙ rw e refl) (u ∙ rw e refl) (n ∙ rw e refl) (stands-partial (sym e) l))
@@ -87,8 +87,8 @@ module _ (s : StreamState) (room : length (s .held) ≡ FrameRecord) where
           → place ≡ place′
           → t ≡ t′
           → count ≡ count′
-          → Stands (record { place = place′; stopped = t′; count = count′; held = s .held }) (passed (standing s))
-          → Stands (record { place = place; stopped = t; count = count; held = s .held }) (passed (standing s))
+          → StandsAt (record { place = place′; stopped = t′; count = count′; held = s .held }) (passed (standing s))
+          → StandsAt (record { place = place; stopped = t; count = count; held = s .held }) (passed (standing s))
       moved place′ t′ count′ e f g w =
           record {
             position = (λ i. record { place = e i; stopped = f i; begun = take (g i) (s .held) }) ∙ w .position;
@@ -111,7 +111,7 @@ module _ (s : StreamState) (room : length (s .held) ≡ FrameRecord) where
       → false ≡ isToTell (s .count) (kindOf (s .held))
       → place ≡ cond (isOpen (s .count) (kindOf (s .held))) (s .place) (placeBehind (s .place) (s .count))
       → count ≡ cond (isOpen (s .count) (kindOf (s .held))) (s .count) 0
-      → Stands (record { place = place; stopped = s .stopped; count = count; held = s .held }) (passed (standing s))
+      → StandsAt (record { place = place; stopped = s .stopped; count = count; held = s .held }) (passed (standing s))
   stands-on l g t p n = stands-passed l p (g ∙ still (isOpen (s .count) (kindOf (s .held))) (sym t)) n
     where
       still :
@@ -187,7 +187,7 @@ unfolding eventAt
 is-told p t = rw (telling p t .0) refl
 
 -- The end of a stream in a state.
-module _ {s : StreamState} {p : Position} (w : Stands s p) where
+module _ {s : StreamState} {p : Position} (w : StandsAt s p) where
   stopped-there : s .stopped ≡ p .stopped
   stopped-there = ap (λ (q : Position). q .stopped) (w .position)
 

@@ -11,7 +11,7 @@ use Rattle.frame.proofs.bytes.Laws.{cases}
 use Rattle.stream.specs.declared.state.StreamState.{StreamState}
 use Rattle.stream.specs.Record.{FrameRecord, kindOf, wholeSize, partial}
 use Rattle.stream.specs.Reader.{Position, positionOf}
-use Rattle.stream.specs.Contracts.{isOpen, standing, Stands}
+use Rattle.stream.specs.Contracts.{isOpen, standing, StandsAt}
 use Rattle.stream.proofs.record.Laws.{size-within, part-size, partial-of, no-bytes}
 
 -- The room of an array, as a parameter tells it.
@@ -23,7 +23,7 @@ module _ (s : StreamState) (room : length (s .held) ≡ FrameRecord) where
   pub stands-sound :
       {n : ℕ}
       → n ≡ cond (isOpen (s .count) (kindOf (s .held))) (s .count) 0
-      → Stands (record { place = s .place; stopped = s .stopped; count = n; held = s .held }) (positionOf s)
+      → StandsAt (record { place = s .place; stopped = s .stopped; count = n; held = s .held }) (positionOf s)
   unfolding positionOf
   stands-sound {n} e =
       let size = wholeSize (kindOf (s .held)) in
@@ -50,7 +50,7 @@ pub open-position : (s : StreamState) → partial (positionOf s .begun) ≡ true
 unfolding positionOf
 open-position s = cases (partial (take (s .count) (s .held))) (λ e. rw e e) (λ e. rw e no-bytes)
 
-pub at-position : {s : StreamState} {p : Position} → Stands s p → partial (p .begun) ≡ true → positionOf s ≡ p
+pub at-position : {s : StreamState} {p : Position} → StandsAt s p → partial (p .begun) ≡ true → positionOf s ≡ p
 unfolding positionOf
 at-position {s} {p} w o =
     let e : partial (standing s .begun) ≡ true = ap (λ (q : Position). partial (q .begun)) (w .position) ∙ o in
@@ -59,16 +59,16 @@ at-position {s} {p} w o =
 -- Where it stands, as a call's loop begins with it.
 pub begins :
     {s : StreamState} {p : Position}
-    → Stands s p
+    → StandsAt s p
     → partial (p .begun) ≡ true
-    → Stands s (standing s) × (partial (standing s .begun) ≡ true)
+    → StandsAt s (standing s) × (partial (standing s .begun) ≡ true)
 begins w o = (
   record { position = refl; room = w .room; within = w .within },
   subst (λ (q : Position). partial (q .begun) ≡ true) (sym (w .position)) o,
 )
 
 -- A partial record leaves room for a byte.
-pub room-left : {s : StreamState} {p : Position} → Stands s p → partial (standing s .begun) ≡ true → s .count < FrameRecord
+pub room-left : {s : StreamState} {p : Position} → StandsAt s p → partial (standing s .begun) ≡ true → s .count < FrameRecord
 room-left {s} w e =
     let size = length-take-le (s .count) (s .held) (omega (arith, w .room, w .within)) in
     omega (arith, part-size (standing s .begun) e, size-within (kindOf (standing s .begun)) .1, size)

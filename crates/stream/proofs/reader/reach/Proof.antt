@@ -8,7 +8,7 @@ use lib.ListN.{length, set, getD}
 use Rattle.stream.specs.declared.state.StreamState.{StreamState}
 use Rattle.stream.specs.Record.{FrameRecord}
 use Rattle.stream.specs.Reader.{withByte}
-use Rattle.stream.specs.Contracts.{standing, Stands, Going, OnTheWay}
+use Rattle.stream.specs.Contracts.{standing, StandsAt, Going, OnTheWay}
 use Rattle.stream.proofs.state.Laws.{room-left}
 use Rattle.stream.proofs.reader.Laws.{stands-more}
 use Rattle.stream.proofs.reader.Going.{way-begins, way-goes, way-on, way-ends}
@@ -50,7 +50,7 @@ module _ (c : tie.After-shared-slice-known2 Inv-loop μ-loop) where
   room = room-left (going .0 .stands) (going .0 .open-record)
 
   stands :
-      Stands (record { place = s .place; stopped = s .stopped; count = s .count + 1; held = set (s .held) (s .count) (getD part here 0) })
+      StandsAt (record { place = s .place; stopped = s .stopped; count = s .count + 1; held = set (s .held) (s .count) (getD part here 0) })
       (withByte (standing s) (getD part here 0))
   stands = stands-more s (going .0 .stands .room) (getD part here 0) room
 

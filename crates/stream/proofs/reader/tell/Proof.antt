@@ -9,7 +9,7 @@ use lib.Seq.{length-take-le}
 use Rattle.frame.specs.Frame.{Frame}
 use Rattle.frame.specs.Refusal.{Outcome}
 use Rattle.stream.specs.Reader.{Position, positionOf, isTelling, reach, runsTold, outTold}
-use Rattle.stream.specs.Contracts.{standing, Stands}
+use Rattle.stream.specs.Contracts.{standing, StandsAt}
 use Rattle.stream.proofs.state.Laws.{open-position, begins}
 use Rattle.stream.proofs.reader.Laws.{telling-is}
 use Rattle.stream.proofs.reader.Gives.{told-so, answers-nothing, whole-reached, answers-record}
@@ -22,7 +22,7 @@ reach-requires c κs = begins (c .sound .ensures) (open-position (c .before .bef
 -- the state that is reached, from the position that was lent
 there :
     (c : tie.After-reach)
-    → let a = c .before .before .before .before .args in Stands (c .reach .result .state) (reach (positionOf (a .state)) (a .part .now) .position)
+    → let a = c .before .before .before .before .args in StandsAt (c .reach .result .state) (reach (positionOf (a .state)) (a .part .now) .position)
 there c =
     let w = c .reach .ensures .stands in
     let part = c .before .before .before .before .args .part .now in

@@ -7,7 +7,7 @@ use lib.ListN.{length}
 use lib.Seq.{paste, paste-zero}
 use Rattle.stream.specs.Reader.{positionOf}
 use Rattle.stream.specs.State.{HeldAt, MostHeld, bytesOf}
-use Rattle.stream.specs.Contracts.{Stands}
+use Rattle.stream.specs.Contracts.{StandsAt}
 use Rattle.stream.proofs.state.Laws.{open-position, begins, room-left}
 use Rattle.stream.proofs.state.Copied.{copied}
 use Rattle.stream.proofs.state.Bytes.{padded, padded-size, padded-at, head-size, state-bytes}
@@ -25,7 +25,7 @@ loop-holds c =
     let s = c .before .before .sound .result in (paste-zero (c .head-of .result) HeldAt (padded (s .count) (s .held)), omega arith)
 
 module _ (c : tie.After-sound Inv-loop μ-loop) where
-  stands : Stands (c .sound .result) (positionOf (c .before .args .state))
+  stands : StandsAt (c .sound .result) (positionOf (c .before .args .state))
   stands = c .sound .ensures
 
   few : c .sound .result .count ≤ MostHeld
