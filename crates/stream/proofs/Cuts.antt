@@ -1,6 +1,6 @@
 -- The law of cuts: a stream fed part after part tells what it gives read at once. Each law holds of every form of state that keeps
 -- positions; the forms are two, by value and as 24 bytes.
-use mathlib.Core.Path.{_≡_, refl, ap, subst}
+use mathlib.Core.Path.{_≡_, refl, ap, _∙_, subst}
 use mathlib.Core.Logic.{inl}
 use mathlib.Core.Bool.{Bool, true, false, cond}
 use mathlib.Core.List.{List, [], _∷_, append-nil}
@@ -13,15 +13,16 @@ use Rattle.frame.specs.Frame.{MostBytes}
 use Rattle.frame.specs.Refusal.{refused, OutputShort}
 use Rattle.frame.proofs.bytes.Laws.{cases}
 use Rattle.stream.specs.Refusal.{StreamKindUnknown, StreamCut}
-use Rattle.stream.specs.Stream.{Event}
+use Rattle.stream.specs.Stream.{Event, placeBehind}
 use Rattle.stream.specs.Reader.{Position, fresh, told, outgrows, within, toldWithin, endPlace, cutRefusal, endRefusal}
 use Rattle.stream.specs.State.{freshBytes}
 use Rattle.stream.specs.Calls.{Form, byValue, byBytes, isShort, call, Lent, callsOver, partsFed, joinedParts, singles}
-use Rattle.stream.specs.Cuts.{Keeping, AllRead, AsAtOnce, HoldsBegun, NoMore}
+use Rattle.stream.specs.Cuts.{Keeping, AllRead, AsAtOnce, sizeTold, HoldsBegun, NoMore}
 use Rattle.stream.proofs.reader.Laws.{reach-none}
 use Rattle.stream.proofs.reader.Flow.{open-event, open-passed}
+use Rattle.stream.proofs.reader.Events.{place-behind-told}
 use Rattle.stream.proofs.state.Back as back
-use Rattle.stream.proofs.calls.Laws.{calls-run, parts-run, parts-rest, start-between, as-at-once}
+use Rattle.stream.proofs.calls.Laws.{call-tells, calls-run, parts-run, parts-rest, start-between, as-at-once}
 use Rattle.stream.proofs.calls.Held.{holds-begun}
 use Rattle.stream.proofs.calls.Sixty.{after-sixty}
 
@@ -69,6 +70,17 @@ module _ {S : Type 0} (f : Form S) {start : S} (keeps : Keeping f start) where
       let p = f .view state in
       rw (reach-none p, open-event p (begun .open-record), open-passed p (begun .open-record))
       (λ i. record { event = none; taken = reach-none p i .taken; state = begun .written i })
+
+  -- The place of an event, for who asks the state that the call left: right behind the record told of.
+  pub place-told :
+      (cs : List Lent) (s part : List ℕ) (room : ℕ) (e : Event)
+      → let k = call f (callsOver f cs start s .state) part room in
+      k .event ≡ some e → f .view (k .state) .place ≡ placeBehind (e .place) (sizeTold (e .told))
+  place-told cs s part room e h =
+      let state = callsOver f cs start s .state in
+      let between = calls-run f keeps cs start s (start-between f keeps) .between in
+      let tells = call-tells f keeps state part room e between h in
+      ap (λ (q : Position). q .place) (tells .1) ∙ place-behind-told (f .view state) part e (between .open-record) (tells .0)
 
   -- "a state that calls made from fresh holds at most fourteen bytes, and they are the bytes of a record begun"
   pub held-begun : (cs : List Lent) (s : List ℕ) → HoldsBegun f s (callsOver f cs start s)

@@ -3,3 +3,4 @@ pub mod Laws
 pub mod Going
 pub mod Gives
 pub mod Flow
+pub mod Events

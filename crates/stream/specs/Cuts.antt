@@ -2,11 +2,14 @@
 use Prim.Native.Nat.{ℕ, _≤_, _<_, _%_, _^_}
 use mathlib.Core.Path.{_≡_}
 use mathlib.Core.Logic.{_⊎_}
-use mathlib.Core.Bool.{true}
+use mathlib.Core.Bool.{true, cond}
 use mathlib.Core.List.{List, [], _++_}
+use lib.Dec.{eqb}
 use lib.ListN.{length}
-use Rattle.frame.specs.Refusal.{NoRefusal}
-use Rattle.stream.specs.Record.{partial}
+use Rattle.frame.specs.Frame.{Frame}
+use Rattle.frame.specs.Refusal.{Outcome, refused, accepted, NoRefusal}
+use Rattle.stream.specs.Refusal.{StreamKindUnknown}
+use Rattle.stream.specs.Record.{FrameRecord, partial}
 use Rattle.stream.specs.Stream.{wholeStream}
 use Rattle.stream.specs.Reader.{Position, fresh, endPlace, endRefusal}
 use Rattle.stream.specs.State.{MostHeld}
@@ -31,6 +34,11 @@ AllRead f r = (r .rest ≡ []) ⊎ (f .view (r .state) .stopped ≡ true)
 pub record AsAtOnce {S : Type 0} (f : Form S) (s : List ℕ) (r : Run S) : Type 0 where
   pub events : r .events ≡ wholeStream s .events
   pub end : endPlace (f .view (r .state)) ≡ wholeStream s .cut
+
+-- How long the record of an event is: of an unknown kind one byte, else a frame's. So far behind the event's place the next one stands.
+abbrev pub sizeTold : Outcome Frame → ℕ
+sizeTold (refused n) = cond (eqb n StreamKindUnknown) 1 FrameRecord
+sizeTold (accepted f) = FrameRecord
 
 -- "a state that calls made from fresh holds at most fourteen bytes, and they are the bytes of a record begun": in the stream they stand
 -- right before the bytes not yet taken, and the place is that of the first, "bytes before it, modulo 2^64". The state is the one that

@@ -3,7 +3,7 @@ use mathlib.Core.Path.{_≡_, refl, sym, ap, _∙_, subst}
 use mathlib.Core.Logic.{_⊎_, inl, inr, ⊎-elim}
 use mathlib.Core.Bool.{true, false}
 use mathlib.Core.List.{List, [], _∷_, _++_, append-assoc, append-nil}
-use mathlib.Core.Option.{none}
+use mathlib.Core.Option.{none, some}
 use Prim.Native.Nat.{ℕ, zero, suc, _+_, _^_, _≤_, _<_}
 use native.Mathlib.Nat.{mod-lt, not-suc-le-zero}
 use native.Mathlib.Omega.{arith}
@@ -19,6 +19,7 @@ use Rattle.stream.specs.Cuts.{BetweenCalls, Keeping, AllRead, AsAtOnce}
 use Rattle.stream.proofs.reader.Laws.{reach-none, reach-stopped, reach-tells, reach-on, passed-partial}
 use Rattle.stream.proofs.reader.Flow.{flow, flow-none, flow-stopped, open-event, open-passed, call-flow, whole-flow}
 use Rattle.stream.proofs.record.Laws.{no-bytes}
+use Rattle.stream.proofs.reader.Events.{nothing-told}
 use Rattle.stream.proofs.Given.{never-short}
 
 ahead-ahead : (es fs : List Event) (w : Yield) → ahead es (ahead fs w) ≡ ahead (es ++ fs) w
@@ -75,6 +76,18 @@ module _ {S : Type 0} (f : Form S) {start : S} (keeps : Keeping f start) where
         between = subst BetweenCalls (sym same) (between-after p part g);
         within = taken-within p part;
       }))
+
+  -- A call that tells something had room for it.
+  pub call-tells :
+      (s : S) (part : List ℕ) (room : ℕ) (e : Event)
+      → BetweenCalls (f .view s)
+      → call f s part room .event ≡ some e
+      → (told (f .view s) part ≡ some e) × (f .view (call f s part room .state) ≡ after (f .view s) part)
+  unfolding call
+  call-tells s part room e g h =
+      let p = f .view s in
+      cases (isShort (told p part) room) (λ t. absurd (nothing-told (sym (rw t refl) ∙ h)))
+      (λ t. (sym (rw t refl) ∙ h, rw t (keeps .back (after p part) (between-after p part g))))
 
   -- All calls: likewise.
   pub record AllCalls (s : S) (rest : List ℕ) (r : Run S) : Type 0 where

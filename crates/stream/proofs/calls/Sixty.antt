@@ -2,22 +2,20 @@
 use mathlib.Core.Path.{_≡_, refl, sym, ap, _∙_, subst}
 use mathlib.Core.Bool.{Bool, true, false, cond, not, _&&_}
 use mathlib.Core.List.{List}
-use mathlib.Core.Option.{Option, none, some}
-use mathlib.Core.Option.{Option·map}
+use mathlib.Core.Option.{none, some}
 use Prim.Native.Nat.{ℕ}
 use native.Mathlib.Omega.{arith}
 use lib.Dec.{eqb}
-use Rattle.frame.specs.Frame.{Frame}
-use Rattle.frame.specs.Refusal.{Outcome, refused, accepted}
-use Rattle.frame.proofs.bytes.Laws.{cases}
+use Rattle.frame.specs.Refusal.{refused, accepted}
 use Rattle.stream.specs.Refusal.{StreamKindUnknown, StreamRecordWrong}
-use Rattle.stream.specs.Record.{FrameKind, TickKind, kindOf, isUnknownKind, runsIn, runsFit, partial, tells}
-use Rattle.stream.specs.Stream.{Event, eventOf}
-use Rattle.stream.specs.Reader.{Position, passed, eventAt, reach, told, after, cutRefusal}
-use Rattle.stream.specs.Calls.{Form, isShort, call}
+use Rattle.stream.specs.Record.{FrameKind, TickKind, kindOf, isUnknownKind, runsIn, runsFit, tells}
+use Rattle.stream.specs.Stream.{Event}
+use Rattle.stream.specs.Reader.{Position, passed, eventAt, reach, told, cutRefusal}
+use Rattle.stream.specs.Calls.{Form, call}
 use Rattle.stream.specs.Cuts.{BetweenCalls, Keeping, NoMore}
 use Rattle.stream.proofs.reader.Flow.{end-stopped}
-use Rattle.stream.proofs.calls.Laws.{between-after, idle}
+use Rattle.stream.proofs.reader.Events.{event-is}
+use Rattle.stream.proofs.calls.Laws.{between-after, call-tells, idle}
 
 -- Only an unknown kind tells 60.
 unknown-kind : (r : List ℕ) → tells r ≡ some (refused StreamKindUnknown) → isUnknownKind (kindOf r) ≡ true
@@ -34,21 +32,9 @@ unknown-kind r = go (eqb (kindOf r) TickKind) (eqb (kindOf r) FrameKind) (runsFi
     go false true false e = absurd (let z : _≡_ {A = ℕ} StreamRecordWrong StreamKindUnknown = cc in omega arith)
     go false false w e = refl
 
-told-of :
-    (place : ℕ) (o : Option (Outcome Frame)) (e : Event)
-    → Option·map (λ (x : Outcome Frame). record { place = place; told = x }) o ≡ some e
-    → o ≡ some (e .told)
-told-of place none e h = absurd (let z : _≡_ {A = ℕ} 0 1 = cc in omega arith)
-told-of place (some x) e h = let same : record { place = place; told = x } ≡ e = cc in ap (λ (y : Event). some (y .told)) same
-
 stops-there : (p : Position) (e : Event) → eventAt p ≡ some e → e .told ≡ refused StreamKindUnknown → passed p .stopped ≡ true
-unfolding eventAt passed
-stops-there p e h sixty =
-    cases (partial (p .begun))
-    (λ t. absurd (let none-told : none ≡ some e = sym (rw t refl) ∙ h in let z : _≡_ {A = ℕ} 0 1 = cc in omega arith))
-    (λ t.
-    let event : eventOf (p .place) (p .begun) ≡ some e = sym (rw t refl) ∙ h in
-    rw t (unknown-kind (p .begun) (told-of (p .place) (tells (p .begun)) e event ∙ ap some sixty)))
+unfolding passed
+stops-there p e h sixty = let told = event-is p e h in rw (told .whole) (unknown-kind (p .begun) (told .record-tells ∙ ap some sixty))
 
 module _ {S : Type 0} (f : Form S) {start : S} (keeps : Keeping f start) where
   no-more : (s : S) → BetweenCalls (f .view s) → f .view s .stopped ≡ true → NoMore f s
@@ -67,14 +53,8 @@ module _ {S : Type 0} (f : Form S) {start : S} (keeps : Keeping f start) where
       → call f s part room .event ≡ some e
       → e .told ≡ refused StreamKindUnknown
       → NoMore f (call f s part room .state)
-  unfolding call
   after-sixty s part room e g h sixty =
       let p = f .view s in
-      let same = keeps .back (after p part) (between-after p part g) in
-      cases (isShort (told p part) room)
-      (λ t. absurd (let none-told : none ≡ some e = sym (rw t refl) ∙ h in let z : _≡_ {A = ℕ} 0 1 = cc in omega arith))
-      (λ t.
-      let event : told p part ≡ some e = sym (rw t refl) ∙ h in
-      rw t
-      (no-more (f .write (after p part)) (subst BetweenCalls (sym same) (between-after p part g))
-      (ap (λ (q : Position). q .stopped) same ∙ stops-there (reach p part .position) e event sixty)))
+      let tells = call-tells f keeps s part room e g h in
+      no-more (call f s part room .state) (subst BetweenCalls (sym (tells .1)) (between-after p part g))
+      (ap (λ (q : Position). q .stopped) (tells .1) ∙ stops-there (reach p part .position) e (tells .0) sixty)
