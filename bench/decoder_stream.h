@@ -3,23 +3,28 @@
 #ifndef DECODER_STREAM_H
 #define DECODER_STREAM_H
 
+#include "rakhubole.h"
+
 #include <stdbool.h>
-#include <stddef.h>
-#include <stdint.h>
 
 /* The bytes of a record of this kind; an unknown kind is one byte. */
 size_t stream_record_size(uint8_t kind);
 
 /* Where the parts of a state of rakhubole.h stand behind the place, and how many
  * bytes of a record it can hold. */
-enum { STATE_STOPPED = 8, STATE_COUNT = 9, STATE_HELD = 10, STATE_HELD_MOST = 14 };
+enum {
+    STATE_STOPPED = 8,
+    STATE_COUNT = 9,
+    STATE_HELD = 10,
+    STATE_HELD_MOST = RAKHUBOLE_STREAM_STATE - STATE_HELD
+};
 
 /* A fresh one is all zeros. */
 struct stream_reader {
     uint64_t place;
     bool stopped;
     size_t count;
-    uint8_t record[15]; /* the bytes of the record begun */
+    uint8_t record[RAKHUBOLE_STREAM_FRAME_RECORD]; /* the bytes of the record begun */
 };
 
 /* Tells and advances in one, as rakhubole_stream_next. */

@@ -10,11 +10,11 @@
 #define STREAM_LENGTH                                                                            \
     (STREAM_FRAMES * RAKHUBOLE_STREAM_FRAME_RECORD + STREAM_TICKS * RAKHUBOLE_STREAM_TICK_RECORD)
 
-/* A run of 4 to 12 bytes and, where they leave room, a response of 1 in each third
- * frame. */
+/* A run of any length that a message can have and, where it leaves room, a response
+ * of one byte in each third frame. */
 static uint8_t *put_frame(uint8_t *at, size_t number)
 {
-    size_t first = 4 + number % (FRAME_MOST - 3);
+    size_t first = MESSAGE_LEAST + number % (FRAME_MOST - MESSAGE_LEAST + 1);
     size_t second = number % 3 == 0 && first < FRAME_MOST;
     *at++ = STREAM_FRAME;
     *at++ = (uint8_t)first;
