@@ -1,6 +1,6 @@
 /* The stream's input: flags, a state if they say so, cuts behind their number, and
- * the stream. It is read from that state part by part, and from a fresh one in a
- * single part too, with all calls of the stream at each step. */
+ * the stream. It is read from that state part by part and in a single part, with all
+ * calls of the stream at each step. */
 #include "classes.h"
 #include "decoder_stream.h"
 #include "draft.h"
@@ -158,10 +158,8 @@ int LLVMFuzzerTestOneInput(const uint8_t *bytes, size_t size)
         mend_stream(&stream);
     struct run run = {stream.bytes, stream.length};
     read_stream(state, run, &cuts, &cut);
-    if (!(flags & ANY_STATE)) {
-        read_stream(state, run, &none, &whole);
-        require_alike(run, &cut, &whole);
-    }
+    read_stream(state, run, &none, &whole);
+    require_alike(run, &cut, &whole);
     return 0;
 }
 
