@@ -31,10 +31,12 @@ const char *refusal_words(unsigned refusal)
     case RAKHUBOLE_RESPONSE_TOO_MANY:
         return "more than one module answered, or one chatters: one byte is allowed";
     case RAKHUBOLE_STREAM_KIND_UNKNOWN:
-        return "neither a frame nor a tick begins here: nothing from here on is read";
+        return "bytes were lost or added, or this is no such stream: no record begins here, and "
+               "no more is read";
     case RAKHUBOLE_STREAM_RECORD_WRONG:
         return "a damaged record: its lengths are over 12 together, or an unused byte is not zero";
-    case RAKHUBOLE_STREAM_CUT: return "the stream ended inside a record: the rest did not come";
+    case RAKHUBOLE_STREAM_CUT:
+        return "the stream ended inside a record: the cable was pulled, or the recording stopped";
     default: return "a refusal without words";
     }
 }
