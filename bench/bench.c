@@ -30,12 +30,11 @@
 /* ---- Answers ---- */
 
 /* Stops if the two differ in the number or in a byte of the output. */
-static void compare(const struct request *request, const char *where, void *state)
+static void compare(const struct request *request, const char *where)
 {
     uint8_t outputs[2][BUFFER];
     uint64_t answers[2];
     const struct calls *both[2] = {&archive_calls, &decoder_calls};
-    (void)state;
     memset(outputs, 0xA5, sizeof outputs);
     for (int i = 0; i < 2; i++) {
         struct request mine = *request;
@@ -49,6 +48,37 @@ static void compare(const struct request *request, const char *where, void *stat
            (unsigned long long)answers[1],
            memcmp(outputs[0], outputs[1], BUFFER) ? "with other" : "with the same");
     exit(1);
+}
+
+/* Stops if the header's function that tells and advances in one does not give what
+ * the decoder's two calls give; after 8 it takes nothing. */
+static void compare_next(const struct request *request, const char *where)
+{
+    const uint8_t *state = request->in[0].bytes;
+    struct run part = request->in[1];
+    uint8_t wanted[RAKHUBOLE_STREAM_STATE], given[RAKHUBOLE_STREAM_STATE], runs[BUFFER];
+    memcpy(wanted, state, sizeof wanted);
+    memcpy(given, state, sizeof given);
+    uint64_t told = decoder_calls.stream_read(state, part.bytes, part.length, runs,
+                                              request->out_length);
+    size_t to_take = 0, taken;
+    if (told != RAKHUBOLE_OUT_TOO_SHORT)
+        to_take = (size_t)decoder_calls.stream_advance(wanted, part.bytes, part.length);
+    uint64_t answer = rakhubole_stream_next(given, part.bytes, part.length, runs,
+                                            request->out_length, &taken);
+    if (answer == told && taken == to_take && memcmp(given, wanted, sizeof given) == 0)
+        return;
+    printf("%s, rakhubole_stream_next: %016llX, %zu bytes taken; the C decoder %016llX, %zu\n",
+           where, (unsigned long long)answer, taken, (unsigned long long)told, to_take);
+    exit(1);
+}
+
+static void compare_request(const struct request *request, const char *where, void *state)
+{
+    (void)state;
+    compare(request, where);
+    if (request->call == CALL_STREAM_READ)
+        compare_next(request, where);
 }
 
 static size_t visit_all(const char *crates, visit *visitor, void *state)
@@ -66,7 +96,7 @@ static void compare_all(const char *crates)
             exit(1);
         }
     }
-    size_t cases = visit_all(crates, compare, NULL);
+    size_t cases = visit_all(crates, compare_request, NULL);
     printf("both decoders answer the same on %zu inputs\n", cases);
 }
 
