@@ -11,8 +11,7 @@ use lib.Dec.{eqb, ltb}
 use lib.ListN.{length, drop, length-take}
 use Rattle.frame.specs.Frame.{Frame, frameSize, MostBytes}
 use Rattle.frame.specs.Refusal.{Outcome, refused, accepted, outcome, NoRefusal, TooLong, OutputShort}
-use Rattle.stream.specs.Refusal.{StreamKindUnknown, StreamRecordWrong}
-use Rattle.stream.specs.Record.{FrameKind, TickKind, kindOf, firstLength, secondLength, RunsAt, runsIn, runsFit, partial, tells}
+use Rattle.stream.specs.Record.{firstLength, secondLength, RunsAt, runsIn, tells}
 use Rattle.stream.specs.Stream.{Event}
 use Rattle.stream.specs.Reader.{Position, eventAt, outgrows, within, toldWithin, told, reach}
 use Rattle.stream.specs.Calls.{isShort}
@@ -21,58 +20,37 @@ use Rattle.frame.specs.Reader.{readRulesWith, readRules, readRefusal, partsOf, 
 use Rattle.frame.specs.Iso.{isoReadRules, isoReadRefusal, isoParts, readIso}
 use Rattle.frame.proofs.bytes.Laws.{cases}
 use Rattle.frame.proofs.refusal.Laws.{given-by}
-use Rattle.stream.proofs.record.Laws.{fit-within}
+use Rattle.stream.proofs.record.Laws.{fit-within, told-by}
+use Rattle.stream.proofs.reader.Events.{event-is}
 
--- A frame, if there is one, is of twelve bytes at most.
+-- A frame is of twelve bytes at most.
 abbrev Fits : Outcome Frame → Type 0
 Fits (refused n) = Unit {0}
 Fits (accepted f) = frameSize f ≤ MostBytes
+
+record-fits : (r : List ℕ) (o : Outcome Frame) → tells r ≡ some o → Fits o
+unfolding runsIn
+record-fits r o e =
+    let first = length-take (firstLength r) (drop RunsAt r) in
+    let second = length-take (secondLength r) (drop (RunsAt + firstLength r) r) in
+    told-by r o e (λ k w h. subst Fits h (omega (arith, fit-within r w, first, second))) (λ k h. subst Fits h tt) (λ f t h. subst Fits h tt)
 
 abbrev AllFits : Option (Outcome Frame) → Type 0
 AllFits none = Unit {0}
 AllFits (some o) = Fits o
 
-record-fits : (r : List ℕ) → AllFits (tells r)
-unfolding tells runsIn
-record-fits r = go (eqb (kindOf r) TickKind) (eqb (kindOf r) FrameKind) (runsFit r) refl
-  where
-    go :
-        (t f b : Bool)
-        → runsFit r ≡ b
-        → AllFits
-        (cond t none (cond f (some (cond b (accepted (runsIn r)) (refused StreamRecordWrong))) (some (refused StreamKindUnknown))))
-    go true f b e = tt
-    go false false b e = tt
-    go false true false e = tt
-    go false true true e =
-        omega (
-          arith,
-          fit-within r e,
-          length-take (firstLength r) (drop RunsAt r),
-          length-take (secondLength r) (drop (RunsAt + firstLength r) r),
-        )
-
--- What stands at a position, with its place.
 abbrev EventFits : Option Event → Type 0
 EventFits none = Unit {0}
 EventFits (some e) = Fits (e .told)
 
-event-fits : (p : Position) → EventFits (eventAt p)
-unfolding eventAt
-event-fits p = go (partial (p .begun)) (tells (p .begun)) (record-fits (p .begun))
-  where
-    go :
-        (t : Bool) (o : Option (Outcome Frame))
-        → AllFits o
-        → EventFits (cond t none (Option·map (λ (x : Outcome Frame). record { place = p .place; told = x }) o))
-    go true o w = tt
-    go false none w = tt
-    go false (some o) w = w
+event-fits : (p : Position) (x : Option Event) → eventAt p ≡ x → EventFits x
+event-fits p none e = tt
+event-fits p (some y) e = record-fits (p .begun) (y .told) (event-is p y e .record-tells)
 
 -- "a frame that is given has two runs of at most twelve bytes together"
 pub given-within : (p : Position) (part : List ℕ) (room : ℕ) (f : Frame) → toldWithin p part room ≡ some (accepted f) → frameSize f ≤ MostBytes
 given-within p part room f e =
-    subst AllFits e (go (told p part) (event-fits (reach p part .position)))
+    subst AllFits e (go (told p part) (event-fits (reach p part .position) (told p part) refl))
   where
     lent : (o : Outcome Frame) (t : Bool) → Fits o → Fits (cond t (refused OutputShort) o)
     lent o true w = tt
@@ -84,7 +62,7 @@ given-within p part room f e =
 
 -- Twelve bytes of output are always enough.
 pub never-short : (p : Position) (part : List ℕ) (room : ℕ) → MostBytes ≤ room → isShort (told p part) room ≡ false
-never-short p part room l = go (told p part) (event-fits (reach p part .position))
+never-short p part room l = go (told p part) (event-fits (reach p part .position) (told p part) refl)
   where
     fits : (o : Outcome Frame) → Fits o → outgrows o room ≡ false
     fits (refused n) w = refl

@@ -1,11 +1,11 @@
 -- Records of the adapter's stream: document 02, K4. A record is its bytes, the kind byte first.
-use Prim.Native.Nat.{ℕ, _+_}
+use Prim.Native.Nat.{ℕ, _+_, _-_}
 use mathlib.Core.Bool.{Bool, true, cond, not, _&&_}
-use mathlib.Core.List.{List, [], _∷_}
+use mathlib.Core.List.{List, [], _∷_, _++_}
 use mathlib.Core.Option.{Option, none, some}
 use lib.Dec.{eqb, leb, ltb}
-use lib.ListN.{length, getD, take, drop}
-use Rattle.frame.specs.Frame.{Frame, MostBytes}
+use lib.ListN.{length, getD, take, drop, replicate}
+use Rattle.frame.specs.Frame.{Frame, frameSize, MostBytes}
 use Rattle.frame.specs.Refusal.{Outcome, refused, accepted}
 use Rattle.stream.specs.Refusal.{StreamKindUnknown, StreamRecordWrong}
 
@@ -68,3 +68,8 @@ tells r =
     cond (eqb (kindOf r) TickKind) none
     (cond (eqb (kindOf r) FrameKind) (some (cond (runsFit r) (accepted (runsIn r)) (refused StreamRecordWrong)))
     (some (refused StreamKindUnknown)))
+
+-- The record of a frame of at most twelve bytes, as the adapter makes it.
+unfoldable pub recordOf : Frame → List ℕ
+recordOf f =
+    FrameKind ∷ length (f .first) ∷ length (f .response) ∷ ((f .first ++ f .response) ++ replicate (MostBytes - frameSize f) 0)

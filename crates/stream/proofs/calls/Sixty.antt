@@ -1,36 +1,29 @@
 -- After refusal 60 there is no more.
 use mathlib.Core.Path.{_≡_, refl, sym, ap, _∙_, subst}
-use mathlib.Core.Bool.{Bool, true, false, cond, not, _&&_}
+use mathlib.Core.Bool.{true}
 use mathlib.Core.List.{List}
-use mathlib.Core.Option.{none, some}
+use mathlib.Core.Option.{some}
 use Prim.Native.Nat.{ℕ}
 use native.Mathlib.Omega.{arith}
-use lib.Dec.{eqb}
-use Rattle.frame.specs.Refusal.{refused, accepted}
+use Rattle.frame.specs.Refusal.{refused}
 use Rattle.stream.specs.Refusal.{StreamKindUnknown, StreamRecordWrong}
-use Rattle.stream.specs.Record.{FrameKind, TickKind, kindOf, isUnknownKind, runsIn, runsFit, tells}
+use Rattle.stream.specs.Record.{FrameKind, TickKind, kindOf, isUnknownKind, tells}
 use Rattle.stream.specs.Stream.{Event}
 use Rattle.stream.specs.Reader.{Position, passed, eventAt, reach, told, cutRefusal}
 use Rattle.stream.specs.Calls.{Form, call}
 use Rattle.stream.specs.Cuts.{BetweenCalls, Keeping, NoMore}
+use borrow.Author.Tests.{ne-eqb}
+use Rattle.stream.proofs.record.Laws.{told-by}
 use Rattle.stream.proofs.reader.Flow.{end-stopped}
 use Rattle.stream.proofs.reader.Events.{event-is}
 use Rattle.stream.proofs.calls.Laws.{between-after, call-tells, idle}
 
 -- Only an unknown kind tells 60.
 unknown-kind : (r : List ℕ) → tells r ≡ some (refused StreamKindUnknown) → isUnknownKind (kindOf r) ≡ true
-unfolding tells
-unknown-kind r = go (eqb (kindOf r) TickKind) (eqb (kindOf r) FrameKind) (runsFit r)
-  where
-    go :
-        (t f w : Bool)
-        → cond t none (cond f (some (cond w (accepted (runsIn r)) (refused StreamRecordWrong))) (some (refused StreamKindUnknown)))
-        ≡ some (refused StreamKindUnknown)
-        → (not f && not t) ≡ true
-    go true f w e = absurd (let z : _≡_ {A = ℕ} 0 1 = cc in omega arith)
-    go false true true e = absurd (let z : _≡_ {A = ℕ} 0 1 = cc in omega arith)
-    go false true false e = absurd (let z : _≡_ {A = ℕ} StreamRecordWrong StreamKindUnknown = cc in omega arith)
-    go false false w e = refl
+unknown-kind r e =
+    told-by r (refused StreamKindUnknown) e (λ k w h. absurd (let z : _≡_ {A = ℕ} 0 1 = cc in omega arith))
+    (λ k h. absurd (let z : _≡_ {A = ℕ} StreamRecordWrong StreamKindUnknown = cc in omega arith))
+    (λ f t h. rw (ne-eqb (kindOf r) FrameKind f, ne-eqb (kindOf r) TickKind t) refl)
 
 stops-there : (p : Position) (e : Event) → eventAt p ≡ some e → e .told ≡ refused StreamKindUnknown → passed p .stopped ≡ true
 unfolding passed

@@ -1,22 +1,20 @@
 -- Laws of an event: the record that tells it, and where that stands.
 use mathlib.Core.Path.{_≡_, refl, sym, ap, _∙_}
-use mathlib.Core.Bool.{Bool, true, false, cond}
+use mathlib.Core.Bool.{Bool, true, false}
 use mathlib.Core.List.{List, [], _∷_}
 use mathlib.Core.Option.{Option, none, some}
 use mathlib.Core.Option.{Option·map}
 use Prim.Native.Nat.{ℕ}
 use native.Mathlib.Omega.{arith}
-use lib.Dec.{eqb}
 use lib.ListN.{length}
 use Rattle.frame.specs.Frame.{Frame}
-use Rattle.frame.specs.Refusal.{Outcome, refused, accepted}
+use Rattle.frame.specs.Refusal.{Outcome}
 use Rattle.frame.proofs.bytes.Laws.{cases}
-use Rattle.stream.specs.Refusal.{StreamKindUnknown, StreamRecordWrong}
-use Rattle.stream.specs.Record.{FrameKind, TickKind, FrameRecord, TickRecord, kindOf, wholeSize, partial, runsIn, runsFit, tells}
+use Rattle.stream.specs.Record.{kindOf, wholeSize, partial, tells}
 use Rattle.stream.specs.Stream.{Event, placeBehind, eventOf}
 use Rattle.stream.specs.Reader.{Position, withByte, passed, isTelling, eventAt, reach, told, after}
 use Rattle.stream.specs.Cuts.{sizeTold}
-use Rattle.stream.proofs.record.Laws.{grown}
+use Rattle.stream.proofs.record.Laws.{grown, size-frame, size-unknown, told-by}
 use Rattle.stream.proofs.reader.Laws.{reach-none, reach-stopped, reach-tells, reach-on, passed-partial}
 
 -- A test is not both, and nothing is not something.
@@ -63,17 +61,9 @@ one-record p (b ∷ part) o =
 
 -- Its length, by what it tells.
 size-told : (r : List ℕ) (o : Outcome Frame) → tells r ≡ some o → wholeSize (kindOf r) ≡ sizeTold o
-unfolding tells wholeSize
-size-told r o = go (eqb (kindOf r) TickKind) (eqb (kindOf r) FrameKind) (runsFit r)
-  where
-    go :
-        (t f w : Bool)
-        → cond t none (cond f (some (cond w (accepted (runsIn r)) (refused StreamRecordWrong))) (some (refused StreamKindUnknown))) ≡ some o
-        → cond f FrameRecord (cond t TickRecord 1) ≡ sizeTold o
-    go true f w e = absurd (let z : _≡_ {A = ℕ} 0 1 = cc in omega arith)
-    go false true true e = let same : accepted (runsIn r) ≡ o = cc in ap sizeTold same
-    go false true false e = let same : refused StreamRecordWrong ≡ o = cc in ap sizeTold same
-    go false false w e = let same : refused StreamKindUnknown ≡ o = cc in ap sizeTold same
+size-told r o e =
+    let k = kindOf r in
+    told-by r o e (λ f w h. size-frame k f ∙ ap sizeTold h) (λ f h. size-frame k f ∙ ap sizeTold h) (λ f t h. size-unknown k f t ∙ ap sizeTold h)
 
 -- The state that a call leaves stands right behind the record that it told of.
 pub place-behind-told :

@@ -4,13 +4,13 @@ use mathlib.Core.Bool.{Bool, true, false, cond, not, _&&_}
 use mathlib.Core.List.{List, [], _∷_, _++_}
 use Prim.Native.Nat.{ℕ, zero, suc, _+_, _-_, _≤_, _<_}
 use native.Mathlib.Omega.{arith}
-use borrow.Author.Tests.{ltb-true, ltb-false, lt-ltb, le-ltb, le-leb, lt-leb, leb-true, ne-eqb}
+use borrow.Author.Tests.{ltb-true, ltb-false, lt-ltb, le-ltb, le-leb, lt-leb, leb-true, ne-eqb, eqb-true, eqb-false}
 use lib.Dec.{eqb, leb, ltb}
 use lib.ListN.{length, getD, take, drop, length-append, length-drop}
 use lib.Seq.{take-all, length-take-le, drop-cons, take-add, drop-drop}
 use mathlib.Core.Option.{none, some}
-use Rattle.frame.specs.Frame.{MostBytes}
-use Rattle.frame.specs.Refusal.{refused, accepted}
+use Rattle.frame.specs.Frame.{Frame, MostBytes}
+use Rattle.frame.specs.Refusal.{Outcome, refused, accepted}
 use Rattle.frame.proofs.bytes.Laws.{cases}
 use Rattle.stream.specs.Record.{FrameKind, TickKind, FrameRecord, TickRecord, kindOf, isUnknownKind, wholeSize, partial}
 use Rattle.stream.specs.Record.{firstLength, secondLength, RunsAt, runsIn, allZero, runsFit, tells}
@@ -136,6 +136,29 @@ tells-tick r t = rw t
 pub tells-frame : (r : List ℕ) → kindOf r ≡ FrameKind → tells r ≡ some (cond (runsFit r) (accepted (runsIn r)) (refused StreamRecordWrong))
 unfolding tells
 tells-frame r f = rw f
+
+-- What it told, by cases: a frame's record that fits, one that does not, or an unknown kind.
+pub told-by :
+    {A : Type 0} (r : List ℕ) (o : Outcome Frame)
+    → tells r ≡ some o
+    → (kindOf r ≡ FrameKind → runsFit r ≡ true → accepted (runsIn r) ≡ o → A)
+    → (kindOf r ≡ FrameKind → refused StreamRecordWrong ≡ o → A)
+    → ((kindOf r ≡ FrameKind → ⊥) → (kindOf r ≡ TickKind → ⊥) → refused StreamKindUnknown ≡ o → A)
+    → A
+unfolding tells
+told-by {A} r o e frame wrong unknown = go (eqb (kindOf r) TickKind) (eqb (kindOf r) FrameKind) (runsFit r) refl refl refl e
+  where
+    go :
+        (t f w : Bool)
+        → eqb (kindOf r) TickKind ≡ t
+        → eqb (kindOf r) FrameKind ≡ f
+        → runsFit r ≡ w
+        → cond t none (cond f (some (cond w (accepted (runsIn r)) (refused StreamRecordWrong))) (some (refused StreamKindUnknown))) ≡ some o
+        → A
+    go true f w x y z e = absurd (let n : _≡_ {A = ℕ} 0 1 = cc in omega arith)
+    go false true true x y z e = frame (eqb-true _ _ y) z cc
+    go false true false x y z e = wrong (eqb-true _ _ y) cc
+    go false false w x y z e = unknown (eqb-false _ _ y) (eqb-false _ _ x) cc
 
 -- The runs of a whole frame record whose lengths fit: as long as they say, and one behind the other.
 module _ (r : List ℕ) (whole : length r ≡ FrameRecord) (fit : firstLength r + secondLength r ≤ MostBytes) where
