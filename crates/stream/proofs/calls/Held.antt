@@ -5,16 +5,16 @@ use Prim.Native.Nat.{ℕ, _+_, _%_, _^_}
 use native.Mathlib.Nat.{mod-add-mod}
 use native.Mathlib.Omega.{arith}
 use lib.ListN.{length, take, drop, length-append, take-append-drop}
-use lib.Seq.{append-snoc, drop-append-le}
+use lib.Seq.{append-snoc}
 use Rattle.frame.proofs.bytes.Laws.{cases}
 use Rattle.stream.specs.Record.{kindOf, partial}
 use Rattle.stream.specs.Stream.{placeBehind}
-use Rattle.stream.specs.Reader.{Position, withByte, passed, isTelling, reach, told, taken, after}
+use Rattle.stream.specs.Reader.{Position, withByte, passed, reach, told, taken, after}
 use Rattle.stream.specs.Calls.{Form, isShort, call, Lent, callsOver}
 use Rattle.stream.specs.Cuts.{BetweenCalls, Keeping, HoldsBegun}
 use Rattle.stream.proofs.record.Laws.{size-within, part-size}
-use Rattle.stream.proofs.reader.Laws.{reach-none, reach-stopped, reach-tells, reach-on}
-use Rattle.stream.proofs.calls.Laws.{between-after, call-steps, starts-fresh, start-between}
+use Rattle.stream.proofs.reader.Laws.{reach-keeps}
+use Rattle.stream.proofs.calls.Laws.{between-after, untaken, call-steps, starts-fresh, start-between}
 
 -- A position in a stream, before the bytes not yet taken.
 pub record StandsIn (s : List ℕ) (p : Position) (rest : List ℕ) : Type 0 where
@@ -42,13 +42,13 @@ module _ {s : List ℕ} where
             ∙ ap (λ (n : ℕ). n % 2 ^ 64) (sym (length-append (w .before) (p .begun)));
       }))
 
-  reached : (p : Position) (part later : List ℕ) → StandsIn s p (part ++ later) → StandsIn s (reach p part .position) (drop (reach p part .taken) part ++ later)
-  reached p [] later w = rw (reach-none p) w
-  reached p (b ∷ part) later w =
-      cases (p .stopped) (λ e. rw (reach-stopped p (b ∷ part) e) w)
-      (λ e.
-      cases (isTelling (withByte p b)) (λ t. rw (reach-tells p b part e t) (byte-taken w))
-      (λ t. rw (reach-on p b part e t) (reached (passed (withByte p b)) part later (record-passed (byte-taken w)))))
+  reached :
+      (later : List ℕ) (p : Position) (part : List ℕ)
+      → StandsIn s p (part ++ later)
+      → StandsIn s (reach p part .position) (drop (reach p part .taken) part ++ later)
+  reached later =
+      reach-keeps (λ p part r. StandsIn s p (part ++ later) → StandsIn s (r .position) (drop (r .taken) part ++ later)) (λ p part w. w)
+      (λ p b part e t w. byte-taken w) (λ p b part r e t kept w. kept (record-passed (byte-taken w)))
 
 module _ {S : Type 0} (f : Form S) {start : S} (keeps : Keeping f start) where
   -- What a state is: that of its position, which stands in the stream.
@@ -72,7 +72,7 @@ module _ {S : Type 0} (f : Form S) {start : S} (keeps : Keeping f start) where
         written = ap (f .write) same;
         between = subst BetweenCalls (sym same) (between-after p part (w .between));
         stands =
-            subst (λ (q : Position). StandsIn s q (drop (taken p part) part ++ later)) (sym same) (record-passed (reached p part later (w .stands)));
+            subst (λ (q : Position). StandsIn s q (drop (taken p part) part ++ later)) (sym same) (record-passed (reached later p part (w .stands)));
       }))
 
   kept-calls :
@@ -86,8 +86,7 @@ module _ {S : Type 0} (f : Form S) {start : S} (keeps : Keeping f start) where
       let behind = drop (c .size) rest in
       let k = call f state part (c .room) in
       let front = take-append-drop (c .size) rest in
-      let left : drop (k .taken) part ++ behind ≡ drop (k .taken) rest =
-      sym (drop-append-le (k .taken) part behind (call-steps f keeps state part (c .room) (w .between) .within)) ∙ ap (drop (k .taken)) front in
+      let left = untaken (c .size) (k .taken) rest (call-steps f keeps state part (c .room) (w .between) .within) in
       kept-calls cs (k .state) (drop (k .taken) rest)
       (subst (Kept s (k .state)) left (kept-call state part behind (c .room) (subst (Kept s state) (sym front) w)))
 

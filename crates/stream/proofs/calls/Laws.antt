@@ -16,7 +16,7 @@ use Rattle.stream.specs.Stream.{Event, Yield, listed, ahead, wholeStream
 use Rattle.stream.specs.Reader.{Position, fresh, withByte, passed, isTelling, Reached, reach, told, taken, after, endPlace}
 use Rattle.stream.specs.Calls.{Form, isShort, Step, call, Run, Lent, callsOver, partsFed, joinedParts}
 use Rattle.stream.specs.Cuts.{BetweenCalls, Keeping, AllRead, AsAtOnce}
-use Rattle.stream.proofs.reader.Laws.{reach-none, reach-stopped, reach-tells, reach-on, passed-partial}
+use Rattle.stream.proofs.reader.Laws.{reach-stopped, reach-tells, reach-on, reach-keeps, passed-partial}
 use Rattle.stream.proofs.reader.Flow.{flow, flow-none, flow-stopped, open-event, open-passed, call-flow, whole-flow}
 use Rattle.stream.proofs.record.Laws.{no-bytes}
 use Rattle.stream.proofs.reader.Events.{nothing-told}
@@ -33,23 +33,21 @@ between-passed : (p : Position) → p .place < 2 ^ 64 → BetweenCalls (passed p
 between-passed p l = record { place = passed-place p l; open-record = passed-partial p }
 
 reached-place : (p : Position) (part : List ℕ) → p .place < 2 ^ 64 → reach p part .position .place < 2 ^ 64
-reached-place p [] l = rw (reach-none p) l
-reached-place p (b ∷ part) l =
-    cases (p .stopped) (λ e. rw (reach-stopped p (b ∷ part) e) l)
-    (λ e.
-    cases (isTelling (withByte p b)) (λ t. rw (reach-tells p b part e t) l)
-    (λ t. rw (reach-on p b part e t) (reached-place (passed (withByte p b)) part (passed-place (withByte p b) l))))
+reached-place =
+    reach-keeps (λ p part r. p .place < 2 ^ 64 → r .position .place < 2 ^ 64) (λ p part l. l) (λ p b part e t l. l)
+    (λ p b part r e t kept l. kept (passed-place (withByte p b) l))
 
 pub between-after : (p : Position) (part : List ℕ) → BetweenCalls p → BetweenCalls (after p part)
 between-after p part g = between-passed (reach p part .position) (reached-place p part (g .place))
 
 pub taken-within : (p : Position) (part : List ℕ) → reach p part .taken ≤ length part
-taken-within p [] = rw (reach-none p) (omega arith)
-taken-within p (b ∷ part) =
-    cases (p .stopped) (λ e. rw (reach-stopped p (b ∷ part) e) (omega arith))
-    (λ e.
-    cases (isTelling (withByte p b)) (λ t. rw (reach-tells p b part e t) (omega arith))
-    (λ t. let h = taken-within (passed (withByte p b)) part in rw (reach-on p b part e t) (omega (arith, h))))
+taken-within =
+    reach-keeps (λ p part r. r .taken ≤ length part) (λ p part. omega arith) (λ p b part e t. omega arith)
+    (λ p b part r e t kept. omega (arith, kept))
+
+-- What a call that was lent the first bytes leaves of all.
+pub untaken : (size n : ℕ) (rest : List ℕ) → n ≤ length (take size rest) → drop n (take size rest) ++ drop size rest ≡ drop n rest
+untaken size n rest l = sym (drop-append-le n (take size rest) (drop size rest) l) ∙ ap (drop n) (take-append-drop size rest)
 
 module _ {S : Type 0} (f : Form S) {start : S} (keeps : Keeping f start) where
   -- One call: what it tells comes first, the rest is what its state tells of the bytes not taken.
@@ -71,7 +69,7 @@ module _ {S : Type 0} (f : Form S) {start : S} (keeps : Keeping f start) where
       rw e
       (record {
         flows = λ later.
-            call-flow p part later (g .open-record)
+            call-flow later p part (g .open-record)
             ∙ ap (λ (q : Position). ahead (listed (told p part)) (flow q (drop (taken p part) part ++ later))) (sym same);
         between = subst BetweenCalls (sym same) (between-after p part g);
         within = taken-within p part;
@@ -103,8 +101,7 @@ module _ {S : Type 0} (f : Form S) {start : S} (keeps : Keeping f start) where
       let step = call-steps s part (c .room) g in
       let run = calls-run cs (k .state) (drop (k .taken) rest) (step .between) in
       let front = take-append-drop (c .size) rest in
-      let left : drop (k .taken) part ++ drop (c .size) rest ≡ drop (k .taken) rest =
-      sym (drop-append-le (k .taken) part (drop (c .size) rest) (step .within)) ∙ ap (drop (k .taken)) front in
+      let left = untaken (c .size) (k .taken) rest (step .within) in
       record {
         flows = λ later.
             let behind = drop (c .size) rest in

@@ -1,7 +1,7 @@
 -- Laws of an event: the record that tells it, and where that stands.
 use mathlib.Core.Path.{_≡_, refl, sym, ap, _∙_}
 use mathlib.Core.Bool.{Bool, true, false}
-use mathlib.Core.List.{List, [], _∷_}
+use mathlib.Core.List.{List}
 use mathlib.Core.Option.{Option, none, some}
 use mathlib.Core.Option.{Option·map}
 use Prim.Native.Nat.{ℕ}
@@ -12,10 +12,10 @@ use Rattle.frame.specs.Refusal.{Outcome}
 use Rattle.frame.proofs.bytes.Laws.{cases}
 use Rattle.stream.specs.Record.{kindOf, wholeSize, partial, tells}
 use Rattle.stream.specs.Stream.{Event, placeBehind, eventOf}
-use Rattle.stream.specs.Reader.{Position, withByte, passed, isTelling, eventAt, reach, told, after}
+use Rattle.stream.specs.Reader.{Position, withByte, passed, eventAt, reach, told, after}
 use Rattle.stream.specs.Cuts.{sizeTold}
 use Rattle.stream.proofs.record.Laws.{grown, size-frame, size-unknown, told-by}
-use Rattle.stream.proofs.reader.Laws.{reach-none, reach-stopped, reach-tells, reach-on, passed-partial}
+use Rattle.stream.proofs.reader.Laws.{reach-keeps, passed-partial}
 
 -- A test is not both, and nothing is not something.
 not-both : {b : Bool} → b ≡ true → b ≡ false → ⊥
@@ -52,12 +52,12 @@ one-record :
     → partial (p .begun) ≡ true
     → partial (reach p part .position .begun) ≡ false
     → let r = reach p part .position .begun in length r ≡ wholeSize (kindOf r)
-one-record p [] o = rw (reach-none p) (λ w. absurd (not-both o w))
-one-record p (b ∷ part) o =
-    cases (p .stopped) (λ e. rw (reach-stopped p (b ∷ part) e) (λ w. absurd (not-both o w)))
-    (λ e.
-    cases (isTelling (withByte p b)) (λ t. rw (reach-tells p b part e t) (λ w. grown (p .begun) b o w))
-    (λ t. rw (reach-on p b part e t) (one-record (passed (withByte p b)) part (passed-partial (withByte p b)))))
+one-record =
+    reach-keeps
+    (λ p part r.
+    partial (p .begun) ≡ true → partial (r .position .begun) ≡ false → length (r .position .begun) ≡ wholeSize (kindOf (r .position .begun)))
+    (λ p part o w. absurd (not-both o w)) (λ p b part e t o w. grown (p .begun) b o w)
+    (λ p b part r e t kept o. kept (passed-partial (withByte p b)))
 
 -- Its length, by what it tells.
 size-told : (r : List ℕ) (o : Outcome Frame) → tells r ≡ some o → wholeSize (kindOf r) ≡ sizeTold o

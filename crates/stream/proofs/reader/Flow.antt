@@ -12,9 +12,9 @@ use lib.Seq.{append-snoc, take-at, drop-at}
 use Rattle.frame.proofs.bytes.Laws.{cases}
 use Rattle.stream.specs.Record.{kindOf, isUnknownKind, wholeSize, partial}
 use Rattle.stream.specs.Stream.{Event, placeBehind, eventOf, cutAt, Yield, nothingMore, listed, ahead, wholeFrom}
-use Rattle.stream.specs.Reader.{Position, withByte, passed, isTelling, eventAt, Reached, told, taken, after, endPlace}
+use Rattle.stream.specs.Reader.{Position, withByte, passed, eventAt, Reached, told, taken, after, endPlace}
 use Rattle.stream.proofs.record.Laws.{grown, no-bytes}
-use Rattle.stream.proofs.reader.Laws.{reach-none, reach-stopped, reach-tells, reach-on, passed-partial, not-told}
+use Rattle.stream.proofs.reader.Laws.{reach-keeps, passed-partial, not-told}
 
 unfoldable pub flow : Position → List ℕ → Yield
 flow p [] = record { events = []; cut = endPlace p }
@@ -54,22 +54,17 @@ abbrev follows : Reached → List ℕ → List ℕ → Yield
 follows r part later = ahead (listed (eventAt (r .position))) (flow (passed (r .position)) (drop (r .taken) part ++ later))
 
 pub call-flow :
-    (p : Position) (part later : List ℕ)
+    (later : List ℕ) (p : Position) (part : List ℕ)
     → partial (p .begun) ≡ true
     → flow p (part ++ later) ≡ ahead (listed (told p part)) (flow (after p part) (drop (taken p part) part ++ later))
-call-flow p [] later o = still p later o ∙ ap (λ (r : Reached). follows r [] later) (sym (reach-none p))
-call-flow p (b ∷ part) later o =
+call-flow later =
+    reach-keeps (λ p part r. partial (p .begun) ≡ true → flow p (part ++ later) ≡ follows r part later) (λ p part o. still p (part ++ later) o)
+    (λ p b part e t o. flow-on p b (part ++ later) e)
+    (λ p b part r e t kept o.
     let q = withByte p b in
-    cases (p .stopped)
-    (λ e. still p (b ∷ part ++ later) o ∙ ap (λ (r : Reached). follows r (b ∷ part) later) (sym (reach-stopped p (b ∷ part) e)))
-    (λ e.
-    cases (isTelling q)
-    (λ t. flow-on p b (part ++ later) e ∙ ap (λ (r : Reached). follows r (b ∷ part) later) (sym (reach-tells p b part e t)))
-    (λ t.
     flow-on p b (part ++ later) e
     ∙ ap (λ (x : Option Event). ahead (listed x) (flow (passed q) (part ++ later))) (not-told q t)
-    ∙ call-flow (passed q) part later (passed-partial q)
-    ∙ ap (λ (r : Reached). follows r (b ∷ part) later) (sym (reach-on p b part e t))))
+    ∙ kept (passed-partial q))
 
 -- The stream read at once: what stands in a position and what follows, record by record.
 whole-part : (n place : ℕ) (s : List ℕ) → partial s ≡ true → length s ≤ n → wholeFrom n place s ≡ record { events = []; cut = cutAt place s }

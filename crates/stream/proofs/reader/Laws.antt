@@ -1,5 +1,5 @@
 -- Laws of a call: what its steps are by value.
-use mathlib.Core.Path.{_≡_, refl, sym, ap, _∙_}
+use mathlib.Core.Path.{_≡_, refl, sym, ap, _∙_, subst}
 use mathlib.Core.Bool.{Bool, true, false, cond, not, _&&_}
 use mathlib.Core.List.{List, [], _∷_}
 use Prim.Native.Nat.{ℕ, _+_, _≤_, _<_}
@@ -13,7 +13,7 @@ use lib.Seq.{take-suc-set, length-take-le}
 use Rattle.stream.specs.declared.state.StreamState.{StreamState}
 use Rattle.stream.specs.Record.{FrameRecord, TickKind, kindOf, isUnknownKind, partial}
 use Rattle.stream.specs.Stream.{placeBehind, eventOf}
-use Rattle.stream.specs.Reader.{Position, withByte, passed, isTelling, eventAt, oneMore, reach, endPlace, endRefusal}
+use Rattle.stream.specs.Reader.{Position, Reached, withByte, passed, isTelling, eventAt, oneMore, reach, endPlace, endRefusal}
 use Rattle.stream.specs.Contracts.{isOpen, isToTell, standing, StandsAt}
 use Rattle.frame.specs.Refusal.{NoRefusal}
 use Rattle.frame.proofs.bytes.Laws.{cases}
@@ -146,6 +146,29 @@ pub reach-on :
     → reach p (b ∷ s) ≡ oneMore (reach (passed (withByte p b)) s)
 unfolding reach isTelling passed
 reach-on p b s e t = rw (e, t)
+
+-- So what is kept where a call stays, where it stops to tell, and where it goes on by a byte, holds of what it reaches.
+pub reach-keeps :
+    (P : Position → List ℕ → Reached → Type 0)
+    → ((p : Position) (s : List ℕ) → P p s (record { position = p; taken = 0 }))
+    → ((p : Position) (b : ℕ) (s : List ℕ)
+    → p .stopped ≡ false
+    → isTelling (withByte p b) ≡ true
+    → P p (b ∷ s) (record { position = withByte p b; taken = 1 }))
+    → ((p : Position) (b : ℕ) (s : List ℕ) (r : Reached)
+    → p .stopped ≡ false
+    → isTelling (withByte p b) ≡ false
+    → P (passed (withByte p b)) s r
+    → P p (b ∷ s) (oneMore r))
+    → (p : Position) (s : List ℕ)
+    → P p s (reach p s)
+reach-keeps P stays tells on p [] = subst (P p []) (sym (reach-none p)) (stays p [])
+reach-keeps P stays tells on p (b ∷ s) =
+    let q = passed (withByte p b) in
+    cases (p .stopped) (λ e. subst (P p (b ∷ s)) (sym (reach-stopped p (b ∷ s) e)) (stays p (b ∷ s)))
+    (λ e.
+    cases (isTelling (withByte p b)) (λ t. subst (P p (b ∷ s)) (sym (reach-tells p b s e t)) (tells p b s e t))
+    (λ t. subst (P p (b ∷ s)) (sym (reach-on p b s e t)) (on p b s (reach q s) e t (reach-keeps P stays tells on q s))))
 
 -- Behind a record that is passed no whole one is held, and behind a tick reading goes on.
 pub passed-partial : (p : Position) → partial (passed p .begun) ≡ true
