@@ -109,8 +109,11 @@ KindStep = 21845
 abbrev pub KeyStep : ℕ
 KeyStep = 40503
 
+abbrev pub LastStep : ℕ
+LastStep = 256
+
 unfoldable pub bitOf : List ℕ → ℕ
-bitOf key = (recordKind key * KindStep + two key 1 * KeyStep + two key 3) % FilterBits
+bitOf key = (recordKind key * KindStep + two key 1 * KeyStep + two key 3 + getD key 5 0 * LastStep) % FilterBits
 
 abbrev pub WordBits : ℕ
 WordBits = 64

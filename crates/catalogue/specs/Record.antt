@@ -1,4 +1,4 @@
--- Records of a supplement: document 01, "The supplement". A record is its bytes, the kind byte first.
+-- Records of a supplement: document 01, "The supplement"; document 02, K5. A record is its bytes, the kind byte first.
 use Prim.Native.Nat.{ℕ, zero, suc, _+_, _*_, _<_}
 use mathlib.Core.Path.{_≡_}
 use mathlib.Core.Option.{Option}
@@ -13,7 +13,7 @@ use Rattle.catalogue.specs.declared.rows.SlotRow.{SlotRow}
 use Rattle.catalogue.specs.Refusal.{UnknownKind, CutByEnd, OutsideRange, KeyRepeated, KeyInSae}
 use Rattle.catalogue.specs.Rows.{prnFits, slotFits}
 use Rattle.catalogue.specs.Search.{firstWhere, isFound}
-use Rattle.catalogue.specs.Kind.{SLOT, PRN, LAYOUT, recordSize, keySize, known}
+use Rattle.catalogue.specs.Kind.{SLOT, PRN, LAYOUT, SELECTOR, recordSize, keySize, known}
 use Rattle.catalogue.specs.Sae.{saePrn, saeSlot}
 
 -- Its kind; kind and key.
@@ -62,7 +62,21 @@ slotRow r =
 unfoldable pub prnRow : List ℕ → PrnRow
 prnRow r = record { prn = two r 1; form = getD r 3 0; width = getD r 4 0; slot = two r 5 }
 
--- A layout's fields: its PRNs.
+-- What a layout and a kind 4 record begin with: "first byte, target", which are a header, and "selector length 0, 1 or 2".
+abbrev pub headerIn : List ℕ → List ℕ
+headerIn r = getD r 1 0 ∷ getD r 2 0 ∷ []
+
+abbrev pub selectorLength : List ℕ → ℕ
+selectorLength r = getD r 3 0
+
+abbrev pub MostSelector : ℕ
+MostSelector = 2
+
+-- A layout's fields behind them: "two selector bytes follow";
+abbrev pub selectorBytes : List ℕ → List ℕ
+selectorBytes r = getD r 4 0 ∷ getD r 5 0 ∷ []
+
+-- then its PRNs.
 pub record LayoutRow : Type 0 where
   pub prns : List ℕ
 
@@ -71,11 +85,11 @@ abbrev pub MostPrns : ℕ
 MostPrns = 16
 
 abbrev pub layoutCount : List ℕ → ℕ
-layoutCount r = getD r 5 0
+layoutCount r = getD r 6 0
 
 -- The byte where the PRNs begin.
 abbrev pub PrnsAt : ℕ
-PrnsAt = 6
+PrnsAt = 7
 
 -- As many numbers as are asked for, from a byte on.
 unfoldable pub numbers : ℕ → ℕ → List ℕ → List ℕ
@@ -93,25 +107,26 @@ unfoldable pub allZero : List ℕ → Bool
 allZero [] = true
 allZero (b ∷ bs) = eqb b 0 && allZero bs
 
--- A layout's ranges: with H = 0 the priority bits are zero, with H = 1 the target is;
+-- A header's ranges: with H = 0 the priority bits are zero, with H = 1 the target is.
 unfoldable pub headerFits : ℕ → ℕ → Bool
 headerFits first target = cond (eqb (bitH first) 0) (eqb (priority first) 0) (eqb target 0)
 
--- selector present is 0 or 1, and an absent selector is zero;
-unfoldable pub selectorFits : ℕ → ℕ → Bool
-selectorFits present selector = cond (eqb present 0) (eqb selector 0) (eqb present 1)
+-- Those of kind 4: "keyed by the first two, which obey a layout's ranges", and "selector length 0, 1 or 2".
+unfoldable pub selectorFits : List ℕ → Bool
+selectorFits r = headerFits (getD r 1 0) (getD r 2 0) && leb (selectorLength r) MostSelector
 
--- the count is 0 to 16, and unused PRNs are zero.
+-- Those of a layout: the same, "two selector bytes follow, unused ones zero", the count is 0 to 16, and unused PRNs are zero.
 unfoldable pub layoutFits : List ℕ → Bool
 layoutFits r =
-    headerFits (getD r 1 0) (getD r 2 0)
-    && (selectorFits (getD r 3 0) (getD r 4 0) && (leb (layoutCount r) MostPrns && allZero (drop (PrnsAt + layoutCount r * 2) r)))
+    selectorFits r
+    && (allZero (drop (selectorLength r) (selectorBytes r)) && (leb (layoutCount r) MostPrns && allZero (drop (PrnsAt + layoutCount r * 2) r)))
 
 -- Rule 13, by kind; nothing of an unknown kind is in range.
 unfoldable pub inRange : List ℕ → Bool
 inRange r =
     cond (eqb (recordKind r) SLOT) (slotFits (slotRow r))
-    (cond (eqb (recordKind r) PRN) (prnFits (prnRow r)) (cond (eqb (recordKind r) LAYOUT) (layoutFits r) false))
+    (cond (eqb (recordKind r) PRN) (prnFits (prnRow r))
+    (cond (eqb (recordKind r) LAYOUT) (layoutFits r) (cond (eqb (recordKind r) SELECTOR) (selectorFits r) false)))
 
 -- Rule 15, by kind: the SAE tables have SLOTs and PRNs.
 unfoldable pub inSae : List ℕ → Bool

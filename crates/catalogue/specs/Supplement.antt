@@ -1,4 +1,4 @@
--- A supplement as its records, and its test: document 01, refusals 10 to 15.
+-- A supplement as its records, and its test: document 01, refusals 10 to 15; two supplements compared: demand 3, document 02, K5.
 use Prim.Native.Nat.{ℕ, zero, suc, _+_, _≤_}
 use mathlib.Core.Path.{_≡_}
 use mathlib.Core.Bool.{true, false, cond}
@@ -8,8 +8,8 @@ use lib.ListN.{length, take, drop}
 use Rattle.catalogue.specs.declared.supplement.Checked.{Checked}
 use Rattle.frame.specs.Refusal.{NoRefusal}
 use Rattle.catalogue.specs.Refusal.{SupplementTooLong}
-use Rattle.catalogue.specs.Kind.{recordSize, known}
-use Rattle.catalogue.specs.Record.{recordKind, keyOf, inRange, inSae, fault}
+use Rattle.catalogue.specs.Kind.{LAYOUT, SELECTOR, recordSize, known}
+use Rattle.catalogue.specs.Record.{recordKind, keyOf, headerIn, inRange, inSae, fault}
 
 -- The records one after the other: an unknown kind is one byte, and a record that the end cuts is what there is of it. No record is
 -- empty, so as many turns as bytes are enough.
@@ -66,6 +66,18 @@ Stands r s = List·Memᴰ r (recordsOf s)
 -- "every record of the first standing in the second too"
 abbrev pub Among : List ℕ → List ℕ → Type 0
 Among s t = (r : List ℕ) → Stands r s → Stands r t
+
+-- "the second supplement has no kind 4 record for any header for which the first has a layout, except those that the first has too",
+-- said of the records of both.
+abbrev pub NoNewSelector : List (List ℕ) → List (List ℕ) → Type 0
+NoNewSelector rs qs =
+    (r layout : List ℕ)
+    → List·Memᴰ r qs
+    → recordKind r ≡ SELECTOR
+    → List·Memᴰ layout rs
+    → recordKind layout ≡ LAYOUT
+    → headerIn r ≡ headerIn layout
+    → List·Memᴰ r rs
 
 -- No record is cut by the end.
 abbrev pub Whole : List ℕ → Type 0

@@ -11,16 +11,24 @@ const KIND_STEP: usize = 21845;
 
 const KEY_STEP: usize = 40503;
 
+const LAST_STEP: usize = 256;
+
 const WORD_BITS: usize = 64;
 
-// The place of a key's bit. Two PRNs never share a bit, nor do two SLOTs of one form and width.
+// The place of a key's bit. Two PRNs never share a bit, nor do two SLOTs of one form and width, nor two layouts of one header and
+// selector length.
 fn bit_of(key: &[u8]) -> usize
     ensures { λ r. ⌜ r ≡ bitOf (now (key .entry)) ⌝ }
 {
     let kind = byte_at(key, 0);
     let near = two_at(key, 1);
     let far = two_at(key, 3);
-    (kind as usize * KIND_STEP + near as usize * KEY_STEP + far as usize) % FILTER_BITS
+    let last = byte_at(key, 5);
+    (kind as usize * KIND_STEP
+        + near as usize * KEY_STEP
+        + far as usize
+        + last as usize * LAST_STEP)
+        % FILTER_BITS
 }
 
 // Sets the bit of a key, and tells whether it was set. Where the filter has fewer words than bits need, its words, a power of two,

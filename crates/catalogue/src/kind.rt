@@ -8,6 +8,9 @@ pub const PRN: u8 = 2;
 
 pub const LAYOUT: u8 = 3;
 
+// For a header, how many data bytes are its selector.
+pub const SELECTOR: u8 = 4;
+
 // The PRNs that a layout has room for.
 pub const MOST_PRNS: usize = 16;
 
@@ -18,7 +21,8 @@ pub(crate) fn record_size(kind: u8) -> usize
     match kind {
         SLOT => 21,
         PRN => 7,
-        LAYOUT => 38,
+        LAYOUT => 39,
+        SELECTOR => 4,
         _ => 1,
     }
 }
@@ -30,7 +34,8 @@ pub(crate) fn key_size(kind: u8) -> usize
     match kind {
         SLOT => 5,
         PRN => 3,
-        LAYOUT => 5,
+        LAYOUT => 6,
+        SELECTOR => 3,
         _ => 0,
     }
 }

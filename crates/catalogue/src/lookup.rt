@@ -1,9 +1,11 @@
-// What the SAE tables and a supplement hold together: by PRN, by form, width and number, and by layout key.
+// What the SAE tables and a supplement hold together: by PRN, by form, width and number, by header, and by layout key.
 use crate::kind::MOST_PRNS;
 use crate::kind::PRN;
+use crate::kind::SELECTOR;
 use crate::kind::SLOT;
 use crate::record::LAYOUT_COUNT;
 use crate::record::LAYOUT_PRNS;
+use crate::record::SELECTOR_LENGTH;
 use crate::record::prn_of;
 use crate::record::slot_of;
 use crate::record::two_at;
@@ -20,7 +22,10 @@ ghost use Rattle.catalogue.specs.Rows.{prnOf, slotOf};
 ghost use Rattle.catalogue.specs.Record.{MostPrns, recordWith, prnRow, slotRow};
 ghost use Rattle.catalogue.specs.Supplement.{recordsOf};
 ghost use Rattle.catalogue.specs.Contracts.{recordIn};
-ghost use Rattle.catalogue.specs.Lookup.{prnKey, slotKey, orRecord, catalogue, prnsUsed, layoutFound};
+ghost use Rattle.catalogue.specs.Lookup.{prnKey, slotKey, orRecord, catalogue, lengthFor, prnsUsed, layoutFound};
+
+// The selector's length where a supplement has none for the header.
+const USUAL_LENGTH: u8 = 1;
 
 // The PRNs of a layout: as many of the sixteen as the count says, if it was found.
 pub struct LayoutFound {
@@ -79,6 +84,18 @@ pub fn find_slot(s: &[u8], form: u8, width: u8, number: u16) -> SlotFound
         SlotFound::Found(r) => SlotFound::Found(r),
         SlotFound::Missing => own_slot(s, form, width, number),
     }
+}
+
+// The selector's length for a header, given as its first byte and target, whatever the supplement.
+pub fn find_length(s: &[u8], first: u8, target: u8) -> u8
+    ensures { λ r. ⌜ r ≡ lengthFor (catalogue (now (s .entry))) first target ⌝ }
+{
+    let key = [SELECTOR, first, target];
+    let bytes = bytes_with(s, &key);
+    if bytes.len() == 0 {
+        return USUAL_LENGTH;
+    }
+    byte_at(bytes, SELECTOR_LENGTH)
 }
 
 // So many PRNs of a layout record. Most layouts use few of the sixteen.

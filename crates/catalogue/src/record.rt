@@ -2,6 +2,7 @@
 use crate::kind::LAYOUT;
 use crate::kind::MOST_PRNS;
 use crate::kind::PRN;
+use crate::kind::SELECTOR;
 use crate::kind::SLOT;
 use crate::rows::PrnRow;
 use crate::rows::SlotRow;
@@ -13,7 +14,7 @@ use frame::bytes::byte_at;
 ghost use mathlib.Core.Path.{_≡_};
 ghost use Prim.Native.Nat.{_<_};
 ghost use lib.ListN.{drop};
-ghost use Rattle.catalogue.specs.Record.{hasKey, two, four, slotRow, prnRow, allZero, headerFits, selectorFits, layoutFits, inRange, inSae};
+ghost use Rattle.catalogue.specs.Record.{hasKey, two, four, slotRow, prnRow, allZero, headerFits, selectorLength, selectorBytes, selectorFits, layoutFits, inRange, inSae};
 
 // Where the fields of a SLOT's key and of a PRN's stand.
 const SLOT_FORM: usize = 1;
@@ -24,10 +25,18 @@ const SLOT_NUMBER: usize = 3;
 
 const PRN_NUMBER: usize = 1;
 
-// Where a layout's count stands, and where its PRNs begin.
-pub(crate) const LAYOUT_COUNT: usize = 5;
+// Where the selector's length stands in a layout and in a selector record; behind it a layout has its selector, of at most so many
+// bytes.
+pub(crate) const SELECTOR_LENGTH: usize = 3;
 
-pub(crate) const LAYOUT_PRNS: usize = 6;
+const LAYOUT_SELECTOR: usize = 4;
+
+const MOST_SELECTOR: usize = 2;
+
+// Where a layout's count stands, and where its PRNs begin.
+pub(crate) const LAYOUT_COUNT: usize = 6;
+
+pub(crate) const LAYOUT_PRNS: usize = 7;
 
 pub(crate) fn two_at(bytes: &[u8], i: usize) -> u16
     requires { ⌜ i < 64 ⌝ }
@@ -83,7 +92,7 @@ pub(crate) fn has_key(key: &[u8], bytes: &[u8]) -> bool
     if bytes.len() < size {
         return false;
     }
-    // The last byte is where keys differ most often.
+    // The last byte is where keys differ most often; of layouts it is mostly 0.
     if 0 < size {
         let last = size - 1;
         if key[last] != bytes[last] {
@@ -123,23 +132,34 @@ fn header_fits(first: u8, target: u8) -> bool
     }
 }
 
-fn selector_fits(present: u8, selector: u8) -> bool
-    ensures { λ r. ⌜ r ≡ selectorFits present selector ⌝ }
+// The header and the selector's length, of a layout too.
+fn selector_fits(bytes: &[u8]) -> bool
+    ensures { λ r. ⌜ r ≡ selectorFits (now (bytes .entry)) ⌝ }
 {
-    if present == 0 {
-        selector == 0
-    } else {
-        present == 1
+    if !header_fits(byte_at(bytes, 1), byte_at(bytes, 2)) {
+        return false;
     }
+    byte_at(bytes, SELECTOR_LENGTH) as usize <= MOST_SELECTOR
+}
+
+// Whether the selector bytes of a layout that its length leaves unused are zero.
+fn unused_zero(bytes: &[u8]) -> bool
+    ensures { λ r. ⌜ r ≡ allZero (drop (selectorLength (now (bytes .entry))) (selectorBytes (now (bytes .entry)))) ⌝ }
+{
+    let selector = [
+        byte_at(bytes, LAYOUT_SELECTOR),
+        byte_at(bytes, LAYOUT_SELECTOR + 1),
+    ];
+    all_zero(&selector, byte_at(bytes, SELECTOR_LENGTH) as usize)
 }
 
 fn layout_fits(bytes: &[u8]) -> bool
     ensures { λ r. ⌜ r ≡ layoutFits (now (bytes .entry)) ⌝ }
 {
-    if !header_fits(byte_at(bytes, 1), byte_at(bytes, 2)) {
+    if !selector_fits(bytes) {
         return false;
     }
-    if !selector_fits(byte_at(bytes, 3), byte_at(bytes, 4)) {
+    if !unused_zero(bytes) {
         return false;
     }
     let count = byte_at(bytes, LAYOUT_COUNT) as usize;
@@ -162,6 +182,9 @@ pub(crate) fn in_range(bytes: &[u8]) -> bool
     }
     if kind == LAYOUT {
         return layout_fits(bytes);
+    }
+    if kind == SELECTOR {
+        return selector_fits(bytes);
     }
     false
 }

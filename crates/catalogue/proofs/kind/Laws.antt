@@ -7,7 +7,7 @@ use native.Mathlib.Omega.{arith}
 use borrow.Author.Tests.{leb-true, ltb-true, lt-leb, ne-eqb}
 use lib.Dec.{eqb, leb, ltb}
 use Rattle.catalogue.specs.Search.{firstWhere, isFound, every}
-use Rattle.catalogue.specs.Kind.{SLOT, PRN, LAYOUT, Kind, kinds, kindHolds, kindsHold, kindFound, known, orUnknown, recordSize, keySize}
+use Rattle.catalogue.specs.Kind.{SLOT, PRN, LAYOUT, SELECTOR, Kind, kinds, kindHolds, kindsHold, kindFound, known, orUnknown, recordSize, keySize}
 use Rattle.catalogue.proofs.search.Laws.{both, found-is, every-is}
 
 kinds-hold : kindsHold ≡ true
@@ -15,9 +15,13 @@ unfolding kindsHold kinds every
 kinds-hold = refl
 
 -- The bytes of kind and key, kind by kind.
-pub key-sizes : (keySize SLOT ≡ 5) × (keySize PRN ≡ 3) × (keySize LAYOUT ≡ 5)
+pub key-sizes : (keySize SLOT ≡ 5) × (keySize PRN ≡ 3) × (keySize LAYOUT ≡ 6) × (keySize SELECTOR ≡ 3)
 unfolding keySize orUnknown kindFound kinds firstWhere
-key-sizes = (refl, refl, refl)
+key-sizes = (refl, refl, refl, refl)
+
+pub layout-size : recordSize LAYOUT ≡ 39
+unfolding recordSize orUnknown kindFound kinds firstWhere
+layout-size = refl
 
 -- A kind that was found, or the unknown one: a record has a byte, its key lies within it, and its size tells whether the kind is known.
 record Sized (o : Option Kind) : Type 0 where
@@ -67,14 +71,20 @@ module _ (kind : ℕ) where
   unknown-told = kind-sized .told
 
   -- The kinds are these.
-  unlisted : (kind ≡ SLOT → ⊥) → (kind ≡ PRN → ⊥) → (kind ≡ LAYOUT → ⊥) → kindFound kind ≡ none
+  unlisted : (kind ≡ SLOT → ⊥) → (kind ≡ PRN → ⊥) → (kind ≡ LAYOUT → ⊥) → (kind ≡ SELECTOR → ⊥) → kindFound kind ≡ none
   unfolding kindFound kinds firstWhere
-  unlisted a b c = rw (ne-eqb SLOT kind (λ e. a (sym e)), ne-eqb PRN kind (λ e. b (sym e)), ne-eqb LAYOUT kind (λ e. c (sym e)))
+  unlisted a b c d =
+      rw (
+        ne-eqb SLOT kind (λ e. a (sym e)),
+        ne-eqb PRN kind (λ e. b (sym e)),
+        ne-eqb LAYOUT kind (λ e. c (sym e)),
+        ne-eqb SELECTOR kind (λ e. d (sym e)),
+      )
 
-  pub size-unlisted : (kind ≡ SLOT → ⊥) → (kind ≡ PRN → ⊥) → (kind ≡ LAYOUT → ⊥) → recordSize kind ≡ 1
+  pub size-unlisted : (kind ≡ SLOT → ⊥) → (kind ≡ PRN → ⊥) → (kind ≡ LAYOUT → ⊥) → (kind ≡ SELECTOR → ⊥) → recordSize kind ≡ 1
   unfolding recordSize orUnknown
-  size-unlisted a b c = ap (λ (o : Option Kind). orUnknown o .size) (unlisted a b c)
+  size-unlisted a b c d = ap (λ (o : Option Kind). orUnknown o .size) (unlisted a b c d)
 
-  pub key-unlisted : (kind ≡ SLOT → ⊥) → (kind ≡ PRN → ⊥) → (kind ≡ LAYOUT → ⊥) → keySize kind ≡ 0
+  pub key-unlisted : (kind ≡ SLOT → ⊥) → (kind ≡ PRN → ⊥) → (kind ≡ LAYOUT → ⊥) → (kind ≡ SELECTOR → ⊥) → keySize kind ≡ 0
   unfolding keySize orUnknown
-  key-unlisted a b c = ap (λ (o : Option Kind). orUnknown o .key) (unlisted a b c)
+  key-unlisted a b c d = ap (λ (o : Option Kind). orUnknown o .key) (unlisted a b c d)

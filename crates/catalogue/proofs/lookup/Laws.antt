@@ -7,8 +7,8 @@ use Prim.Native.Nat.{ℕ, _-_, min, _≤_, _<_}
 use native.Mathlib.Omega.{arith}
 use borrow.Author.Tests.{leb-true, leb-false}
 use lib.Dec.{leb}
-use lib.ListN.{length, take, getD, replicate, length-take, length-append, length-replicate}
-use lib.Seq.{take-all, take-append-le, length-take-le, getD-take}
+use lib.ListN.{length, take, replicate, length-take, length-append, length-replicate}
+use lib.Seq.{take-all, take-append-le, length-take-le}
 use Rattle.frame.specs.Bytes.{Bytes}
 use Rattle.frame.proofs.bytes.Laws.{cases}
 use Rattle.catalogue.specs.declared.rows.PrnRow.{PrnRow}
@@ -18,12 +18,12 @@ use Rattle.catalogue.specs.Sae.{saePrn, saeSlot}
 use Rattle.catalogue.specs.Record.{recordKind, recordWith, FullKey, prnRow, slotRow, inRange}
 use Rattle.catalogue.specs.Record.{LayoutRow, MostPrns, PrnsAt, layoutCount, layoutPlaces, layoutRow}
 use Rattle.catalogue.specs.Supplement.{recordsOf, Good}
-use Rattle.catalogue.specs.Lookup.{prnKey, slotKey, layoutKey, orRecord, catalogueOf, catalogue, prnsUsed, layoutFound, layoutOf}
+use Rattle.catalogue.specs.Lookup.{prnKey, slotKey, selectorKey, layoutKey, orRecord, catalogueOf, catalogue, prnsUsed, layoutFound, layoutOf}
 use Rattle.catalogue.proofs.rows.Laws.{sized-slot}
 use Rattle.catalogue.proofs.sae.Laws.{sae-prn-fits, sae-slot-fits}
 use Rattle.catalogue.proofs.kind.Laws.{key-sizes}
 use Rattle.catalogue.proofs.record.Laws.{length-numbers, range-slot, range-prn, slot-row-sized}
-use Rattle.catalogue.proofs.record.Keys.{has-is, has-kind, found-record}
+use Rattle.catalogue.proofs.record.Keys.{has-byte, has-kind, found-record}
 
 take-most : (n : ℕ) (l : List ℕ) → length l ≡ MostPrns → take (min n MostPrns) l ≡ take n l
 take-most n l e =
@@ -78,8 +78,11 @@ prn-key-full p = record { kind = omega arith; size = sym (key-sizes .1) }
 pub slot-key-full : (f w n : ℕ) → FullKey (slotKey f w n)
 slot-key-full f w n = record { kind = omega arith; size = sym (key-sizes .0) }
 
-pub layout-key-full : (a b x y : ℕ) → FullKey (layoutKey a b x y)
-layout-key-full a b x y = record { kind = omega arith; size = sym (key-sizes .2) }
+pub selector-key-full : (b t : ℕ) → FullKey (selectorKey b t)
+selector-key-full b t = record { kind = omega arith; size = sym (key-sizes .3) }
+
+pub layout-key-full : (b t : ℕ) (selector : List ℕ) → FullKey (layoutKey b t selector)
+layout-key-full b t selector = record { kind = omega arith; size = sym (key-sizes .2) }
 
 -- What holds of the SAE row and of the record's row holds of what is found.
 either :
@@ -125,10 +128,8 @@ slot-keyed rs good f w n =
     either (λ (row : SlotRow). (row .form ≡ f) × (row .width ≡ w)) slotRow (saeSlot f w n) (recordWith (slotKey f w n) rs)
     (λ row h. let told = sae-slot-fits f w n row h in (told .form, told .width))
     (λ r h.
-    let start : take 5 r ≡ slotKey f w n = has-is (slotKey f w n) r (found-record (slotKey f w n) rs r h .0) in (
-      sym (getD-take 5 r 1 0 (omega arith)) ∙ ap (λ (t : List ℕ). getD t 1 0) start,
-      sym (getD-take 5 r 2 0 (omega arith)) ∙ ap (λ (t : List ℕ). getD t 2 0) start,
-    ))
+    let has = found-record (slotKey f w n) rs r h .0 in
+    (has-byte (slotKey f w n) r 1 (omega arith) has, has-byte (slotKey f w n) r 2 (omega arith) has))
 
 pub slot-sized :
     (rs : List (List ℕ))

@@ -2,12 +2,12 @@
 use mathlib.Core.Path.{_≡_, refl, sym, ap, _∙_}
 use mathlib.Core.Bool.{true, false, true≢false}
 use mathlib.Core.Option.{some}
-use mathlib.Core.List.{List, [], _∷_, List·Memᴰ}
+use mathlib.Core.List.{List, [], _∷_, _++_, List·Memᴰ}
 use Prim.Native.Nat.{ℕ, zero, suc, _≤_, _<_}
 use native.Mathlib.Omega.{arith}
 use borrow.Author.Tests.{eq-eqb, eqb-true}
 use lib.Dec.{eqb}
-use lib.ListN.{length, take}
+use lib.ListN.{length, take, getD}
 use lib.Seq.{getD-take, length-take-le}
 use Rattle.frame.proofs.bytes.Laws.{cases}
 use Rattle.catalogue.specs.Search.{isFound}
@@ -31,8 +31,18 @@ has-is (k ∷ key) (b ∷ r) e =
     let t = both (eqb k b) (hasKey key r) e in
     λ i. sym (eqb-true k b (t .0)) i ∷ has-is key r (t .1) i
 
+-- A record that has the whole of a key has the start of it, and each byte of the key at its place.
+pub has-start : (start rest r : List ℕ) → hasKey start r ≡ false → hasKey (start ++ rest) r ≡ false
+unfolding hasKey
+has-start [] rest r e = absurd (true≢false e)
+has-start (k ∷ start) rest [] e = refl
+has-start (k ∷ start) rest (b ∷ r) e = cases (eqb k b) (λ t. rw t (has-start start rest r (sym (rw t) ∙ e))) (λ f. rw f)
+
+pub has-byte : (key r : List ℕ) (i : ℕ) → i < length key → hasKey key r ≡ true → getD r i 0 ≡ getD key i 0
+has-byte key r i h e = sym (getD-take (length key) r i 0 h) ∙ ap (λ (l : List ℕ). getD l i 0) (has-is key r e)
+
 pub has-kind : (key r : List ℕ) → 0 < length key → hasKey key r ≡ true → recordKind r ≡ recordKind key
-has-kind key r h e = sym (getD-take (length key) r 0 0 h) ∙ ap recordKind (has-is key r e)
+has-kind key r h e = has-byte key r 0 h e
 
 pub key-is : (key r : List ℕ) → FullKey key → hasKey key r ≡ true → keyOf r ≡ key
 key-is key r f e =

@@ -1,5 +1,5 @@
 -- Laws of a record's key and fields.
-use mathlib.Core.Path.{_≡_, refl, ap, _∙_}
+use mathlib.Core.Path.{_≡_, refl, sym, ap, _∙_}
 use mathlib.Core.Bool.{true, false, _&&_}
 use mathlib.Core.List.{List, [], _∷_}
 use Prim.Native.Nat.{ℕ, zero, suc, _+_, _*_, _^_, _≤_, _<_}
@@ -7,7 +7,7 @@ use native.Mathlib.Numerals.{add-one}
 use native.Mathlib.Omega.{arith}
 use borrow.Author.Tests.{eq-eqb, ne-eqb, eqb-true, eqb-false}
 use lib.Bits.{bitOr, or-add-and, and-le-r}
-use lib.Dec.{eqb}
+use lib.Dec.{eqb, leb}
 use lib.ListN.{length, drop, getD, drop-of-length-le}
 use lib.Seq.{drop-cons}
 use Rattle.frame.specs.Bytes.{Bytes}
@@ -15,8 +15,10 @@ use Rattle.frame.proofs.bytes.Laws.{cases}
 use Rattle.catalogue.specs.Rows.{prnFits, slotFits, slotSized}
 use Rattle.catalogue.specs.Search.{isFound}
 use Rattle.catalogue.specs.Sae.{saePrn, saeSlot}
-use Rattle.catalogue.specs.Kind.{SLOT, PRN, LAYOUT}
-use Rattle.catalogue.specs.Record.{recordKind, hasKey, two, four, slotRow, prnRow, numbers, allZero, layoutFits, inRange, inSae}
+use Rattle.catalogue.specs.Kind.{SLOT, PRN, LAYOUT, SELECTOR}
+use Rattle.catalogue.specs.Record.{recordKind, hasKey, two, four, slotRow, prnRow, numbers, allZero, inRange, inSae}
+use Rattle.catalogue.specs.Record.{selectorLength, selectorBytes, MostPrns, layoutCount, PrnsAt, selectorFits, layoutFits}
+use Rattle.catalogue.proofs.search.Laws.{both}
 use Rattle.catalogue.proofs.rows.Laws.{sized-slot}
 
 -- A key is compared byte by byte.
@@ -75,9 +77,15 @@ module _ (r : List ℕ) where
   unfolding inRange
   range-layout e = rw e
 
-  pub range-unknown : (recordKind r ≡ SLOT → ⊥) → (recordKind r ≡ PRN → ⊥) → (recordKind r ≡ LAYOUT → ⊥) → inRange r ≡ false
+  pub range-selector : recordKind r ≡ SELECTOR → inRange r ≡ selectorFits r
   unfolding inRange
-  range-unknown a b c = rw (ne-eqb (recordKind r) SLOT a, ne-eqb (recordKind r) PRN b, ne-eqb (recordKind r) LAYOUT c)
+  range-selector e = rw e
+
+  pub range-unknown :
+      (recordKind r ≡ SLOT → ⊥) → (recordKind r ≡ PRN → ⊥) → (recordKind r ≡ LAYOUT → ⊥) → (recordKind r ≡ SELECTOR → ⊥) → inRange r ≡ false
+  unfolding inRange
+  range-unknown a b c d =
+      rw (ne-eqb (recordKind r) SLOT a, ne-eqb (recordKind r) PRN b, ne-eqb (recordKind r) LAYOUT c, ne-eqb (recordKind r) SELECTOR d)
 
   pub sae-slot : recordKind r ≡ SLOT → inSae r ≡ isFound (saeSlot (slotRow r .form) (slotRow r .width) (slotRow r .number))
   unfolding inSae
@@ -90,6 +98,21 @@ module _ (r : List ℕ) where
   pub sae-none : (recordKind r ≡ SLOT → ⊥) → (recordKind r ≡ PRN → ⊥) → inSae r ≡ false
   unfolding inSae
   sae-none a b = rw (ne-eqb (recordKind r) SLOT a, ne-eqb (recordKind r) PRN b)
+
+-- What a layout in range has.
+pub record LayoutHas (r : List ℕ) : Type 0 where
+  pub selector : selectorFits r ≡ true
+  pub unused : allZero (drop (selectorLength r) (selectorBytes r)) ≡ true
+  pub count : leb (layoutCount r) MostPrns ≡ true
+  pub rest : allZero (drop (PrnsAt + layoutCount r * 2) r) ≡ true
+
+pub layout-has : (r : List ℕ) → recordKind r ≡ LAYOUT → inRange r ≡ true → LayoutHas r
+unfolding layoutFits
+layout-has r kind e =
+    let fits = both (selectorFits r) _ (sym (range-layout r kind) ∙ e) in
+    let unused = both (allZero (drop (selectorLength r) (selectorBytes r))) _ (fits .1) in
+    let prns = both (leb (layoutCount r) MostPrns) (allZero (drop (PrnsAt + layoutCount r * 2) r)) (unused .1) in
+    record { selector = fits .0; unused = unused .0; count = prns .0; rest = prns .1 }
 
 -- The numbers of a record one by one.
 pub length-numbers : (n i : ℕ) (r : List ℕ) → length (numbers n i r) ≡ n

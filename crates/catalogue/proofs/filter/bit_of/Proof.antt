@@ -1,6 +1,6 @@
 -- The bytes read are the key's, and the numbers are small.
 use Prim.Native.Nat.{_+_, _*_, _%_}
-use Rattle.catalogue.specs.Contracts.{FilterBits, KindStep, KeyStep, bitOf}
+use Rattle.catalogue.specs.Contracts.{FilterBits, KindStep, KeyStep, LastStep, bitOf}
 use borrow.Author.Needs.{needs}
 use Rattle.catalogue.proofs.filter.bit_of.Statement.{statement}
 use Rattle.catalogue.proofs.filter.bit_of.Tie as tie
@@ -8,7 +8,9 @@ use Rattle.catalogue.proofs.filter.bit_of.Tie as tie
 told : tie.Need-returns
 unfolding bitOf
 told c =
-    λ i. (c .before .before .byte-at .ensures i * KindStep + c .before .two-at .ensures i * KeyStep + c .two-at2 .ensures i) % FilterBits
+    let near = c .before .before .two-at .ensures in
+    let far = c .before .two-at2 .ensures in
+    λ i. (c .before .before .before .byte-at .ensures i * KindStep + near i * KeyStep + far i + c .byte-at2 .ensures i * LastStep) % FilterBits
 
 pub bit-of-spec : {M : Type 1} → statement M
 bit-of-spec =
@@ -17,6 +19,10 @@ bit-of-spec =
     (λ c κs. search needs)
     (λ c κs. search needs)
     (λ c κs. search needs)
+    (λ c κs. search needs)
+    (λ c. search needs)
+    (λ c. search needs)
+    (λ c. search needs)
     (λ c. search needs)
     (λ c. search needs)
     (λ c. search needs)

@@ -14,4 +14,7 @@ record-size-spec =
     (λ c. ap recordSize (sym (c .match .keys1)))
     (λ c. ap recordSize (sym (c .match .keys2)))
     (λ c. ap recordSize (sym (c .match .keys3)))
-    (λ c. sym (size-unlisted (c .before .args .kind) (c .match .rest .0 .0 .1) (c .match .rest .0 .1) (c .match .rest .1))))
+    (λ c. ap recordSize (sym (c .match .keys4)))
+    (λ c.
+    let rest = c .match .rest in
+    sym (size-unlisted (c .before .args .kind) (rest .0 .0 .0 .1) (rest .0 .0 .1) (rest .0 .1) (rest .1))))
