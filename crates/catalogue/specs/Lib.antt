@@ -7,4 +7,5 @@ pub mod Kind
 pub mod Record
 pub mod Supplement
 pub mod Lookup
+pub mod Former
 pub mod Contracts

@@ -114,6 +114,15 @@ layout-has r kind e =
     let prns = both (leb (layoutCount r) MostPrns) (allZero (drop (PrnsAt + layoutCount r * 2) r)) (unused .1) in
     record { selector = fits .0; unused = unused .0; count = prns .0; rest = prns .1 }
 
+-- Zeros from a place on are at each place behind it.
+pub zero-from : (r : List ℕ) (n i : ℕ) → allZero (drop n r) ≡ true → n ≤ i → getD r i 0 ≡ 0
+unfolding allZero
+zero-from [] n i e h = refl
+zero-from (b ∷ r) zero zero e h = eqb-true b 0 (both (eqb b 0) (allZero r) e .0)
+zero-from (b ∷ r) zero (suc i) e h = zero-from r zero i (both (eqb b 0) (allZero r) e .1) (omega arith)
+zero-from (b ∷ r) (suc n) zero e h = absurd (omega arith)
+zero-from (b ∷ r) (suc n) (suc i) e h = zero-from r n i e (omega arith)
+
 -- The numbers of a record one by one.
 pub length-numbers : (n i : ℕ) (r : List ℕ) → length (numbers n i r) ≡ n
 unfolding numbers

@@ -1,0 +1,2 @@
+-- Laws of the layout as it was.
+pub mod Laws
