@@ -1,4 +1,4 @@
--- Demand 3, proved for every accepted frame and every two accepted supplements.
+-- Demand 3, proved for every accepted frame and every two accepted supplements that keep its premise.
 use mathlib.Core.Path.{_≡_, refl, sym, ap, _∙_, subst}
 use mathlib.Core.Logic.{_↔_, _⊎_, inl, inr, ⊎-elim}
 use mathlib.Core.Bool.{true, false, true≢false}
@@ -6,20 +6,23 @@ use mathlib.Core.List.{List, [], _∷_, map}
 use mathlib.Core.Option.{Option, none, some}
 use Prim.Native.Nat.{ℕ, zero, suc}
 use native.Mathlib.Omega.{arith}
-use lib.ListN.{getElem?}
+use lib.ListN.{length, take, getElem?}
+use Rattle.frame.specs.Response.{kindNumber}
 use Rattle.frame.specs.Frame.{Parts}
 use Rattle.catalogue.specs.Record.{LayoutRow, FullKey}
-use Rattle.catalogue.specs.Supplement.{Accepted, Among}
-use Rattle.catalogue.specs.Lookup.{Catalogue, Within, catalogue}
+use Rattle.catalogue.specs.Supplement.{recordsOf, Accepted, Among, NoNewSelector}
+use Rattle.catalogue.specs.Lookup.{Catalogue, Within, catalogue, lengthFor}
 use Rattle.catalogue.proofs.lookup.Laws.{layout-key-full}
-use Rattle.catalogue.proofs.Within.{supplement-within}
+use Rattle.catalogue.proofs.Accepted.{good}
+use Rattle.catalogue.proofs.Within.{supplement-within, lengths-alike}
 use Rattle.report.specs.declared.line.Line.{Line}
 use Rattle.report.specs.Line.{isUnknown}
-use Rattle.report.specs.Report.{Part, Message, Group, Report, groupOf, groupLines, reportOf, linesOf, verdict}
+use Rattle.report.specs.Report.{Part, Message, Group, Report, keyByte, keyTarget, selectorOf, messageWith, messageOf}
+use Rattle.report.specs.Report.{groupOf, groupLines, responseLine, reportOf, linesOf, verdict}
 use Rattle.report.specs.Rows.{row}
 use Rattle.report.specs.Answer.{under}
-use Rattle.report.specs.Demand.{Name, item, remainder, response, itemIn, remainderIn, layoutIn, lineAt, Lacks, Keeps}
-use Rattle.report.proofs.demand.Kept.{AllWith, Kept, GroupKept, groups-kept}
+use Rattle.report.specs.Demand.{Name, item, remainder, response, itemIn, remainderIn, layoutIn, lineAt, Lacks, Alike, Keeps}
+use Rattle.report.proofs.demand.Kept.{AllWith, Kept, GroupKept, groups-kept, groups-gone}
 use Rattle.report.proofs.demand.Covered.{Covered, covered-append, covered-same, groups-covered, verdict-clear, verdict-flagged}
 
 none-some : {A : Type 0} {a : A} → none ≡ some a → ⊥
@@ -136,28 +139,83 @@ module _ (old new : Report) (kept : AllWith GroupKept (old .groups) (new .groups
 
 -- What `Lacks` says of an item line that the second report has: the first catalogue lacks the layout.
 lacks-at :
-    (c d : Catalogue) (o q : Option LayoutRow) (ps : List Part) (g i : ℕ) (l : Line)
-    → itemIn (getElem? (map (groupOf d q) ps) g) i ≡ some l
+    (c d : Catalogue) (o q : Option LayoutRow) (ps qs : List Part)
+    → length ps ≡ length qs
+    → (g i : ℕ) (l : Line)
+    → itemIn (getElem? (map (groupOf d q) qs) g) i ≡ some l
     → (layoutIn (getElem? (map (groupOf c o) ps) g) ≡ none) ↔ (o ≡ none)
 unfolding itemIn layoutIn groupOf
-lacks-at c d o q [] g i l e = absurd (none-some e)
-lacks-at c d none q (p ∷ ps) zero i l e = (λ h. refl, λ h. refl)
-lacks-at c d (some k) q (p ∷ ps) zero i l e = (λ h. absurd (none-some (sym h)), λ h. absurd (none-some (sym h)))
-lacks-at c d o q (p ∷ ps) (suc g) i l e = lacks-at c d o q ps g i l e
+lacks-at c d o q [] [] s g i l e = absurd (none-some e)
+lacks-at c d o q [] (p′ ∷ qs) s g i l e = absurd (omega arith)
+lacks-at c d o q (p ∷ ps) [] s g i l e = absurd (none-some e)
+lacks-at c d none q (p ∷ ps) (p′ ∷ qs) s zero i l e = (λ h. refl, λ h. refl)
+lacks-at c d (some k) q (p ∷ ps) (p′ ∷ qs) s zero i l e = (λ h. absurd (none-some (sym h)), λ h. absurd (none-some (sym h)))
+lacks-at c d o q (p ∷ ps) (p′ ∷ qs) s (suc g) i l e = lacks-at c d o q ps qs (omega arith) g i l e
 
-pub lacks-exactly :
-    (c d : Catalogue) (m : Message) (g i : ℕ) (l : Line)
-    → lineAt (reportOf d m) (item g i) ≡ some l
+lacks-own :
+    (c d : Catalogue) (m n : Message)
+    → length (m .parts) ≡ length (n .parts)
+    → (g i : ℕ) (l : Line)
+    → lineAt (reportOf d n) (item g i) ≡ some l
     → Lacks (reportOf c m) (item g i) ↔ (c .layout (m .key) ≡ none)
 unfolding lineAt Lacks reportOf
-lacks-exactly c d m g i l e = lacks-at c d (c .layout (m .key)) (d .layout (m .key)) (m .parts) g i l e
+lacks-own c d m n s g i l e = lacks-at c d (c .layout (m .key)) (d .layout (n .key)) (m .parts) (n .parts) s g i l e
 
--- Demand 3 for one message and two catalogues, whatever the first finds the second finding the same.
-pub keeps : (c d : Catalogue) → Within c d → (m : Message) → FullKey (m .key) → Keeps (reportOf c m) (reportOf d m)
+-- "the first supplement lacks the layout that the second report uses": that of the second message.
+pub lacks-exactly :
+    (c d : Catalogue) (m n : Message)
+    → Alike c m n
+    → (g i : ℕ) (l : Line)
+    → lineAt (reportOf d n) (item g i) ≡ some l
+    → Lacks (reportOf c m) (item g i) ↔ (c .layout (n .key) ≡ none)
+lacks-exactly c d m n (inl same) g i l e =
+    subst (λ (x : Message). Lacks (reportOf c m) (item g i) ↔ (c .layout (x .key) ≡ none)) same
+    (lacks-own c d m n (ap (λ (x : Message). length (x .parts)) same) g i l e)
+lacks-exactly c d m n (inr a) g i l e = (λ h. a .other, λ h. lacks-own c d m n (a .parts) g i l e .1 (a .own))
+
+-- Demand 3 for a frame's messages under two catalogues, whatever the first finds the second finding the same.
+pub keeps : (c d : Catalogue) → Within c d → (m n : Message) → FullKey (m .key) → Alike c m n → Keeps (reportOf c m) (reportOf d n)
 unfolding reportOf
-keeps c d w m full =
-    reports-keep (reportOf c m) (reportOf d m) (groups-kept c d w (c .layout (m .key)) (d .layout (m .key)) (w .layout (m .key) full) (m .parts)) refl
+keeps c d w m n full (inl same) =
+    subst (λ (x : Message). Keeps (reportOf c m) (reportOf d x)) same
+    (reports-keep (reportOf c m) (reportOf d m) (groups-kept c d w (c .layout (m .key)) (d .layout (m .key)) (w .layout (m .key) full) (m .parts)) refl)
+keeps c d w m n full (inr a) =
+    reports-keep (reportOf c m) (reportOf d n)
+    (subst (λ (o : Option LayoutRow). AllWith GroupKept (map (groupOf c o) (m .parts)) (map (groupOf d (d .layout (n .key))) (n .parts))) (sym (a .own))
+    (groups-gone c d (d .layout (n .key)) (m .parts) (n .parts) (a .parts)))
+    (ap responseLine (a .kind))
 
--- "Take any accepted frame and two accepted supplements, every record of the first standing in the second too."
-pub demand-three : (p : Parts) (s t : List ℕ) → Accepted s → Accepted t → Among s t → Keeps (under s p) (under t p)
-demand-three p s t a b among = keeps (catalogue s) (catalogue t) (supplement-within s t b among) _ (layout-key-full _ _ _ _)
+-- Under the premise a header's selector has one length in both supplements, or the first has no layout for it.
+pub messages-alike :
+    (p : Parts) (s t : List ℕ)
+    → Accepted t
+    → Among s t
+    → NoNewSelector (recordsOf s) (recordsOf t)
+    → Alike (catalogue s) (messageOf (catalogue s) p) (messageOf (catalogue t) p)
+messages-alike p s t b among kept =
+    let first : ℕ = keyByte (p .header) in
+    let target : ℕ = keyTarget (p .header) in
+    let with : ℕ → Message = λ n. messageWith (p .header) (take n (p .body)) (p .body) (kindNumber (p .kind)) in
+    ⊎-elim (λ e. inl (ap with e))
+    (λ none-for.
+    inr
+    (record {
+      own = none-for (take (lengthFor (catalogue s) first target) (p .body));
+      other = none-for (take (lengthFor (catalogue t) first target) (p .body));
+      parts = refl;
+      kind = refl;
+    }))
+    (lengths-alike (recordsOf s) (recordsOf t) (good t b .keys) among kept first target)
+
+-- "Take any accepted frame and two accepted supplements, every record of the first standing in the second too.", under the premise: "the
+-- second supplement has no kind 4 record for any header for which the first has a layout, except those that the first has too".
+pub demand-three :
+    (p : Parts) (s t : List ℕ)
+    → Accepted s
+    → Accepted t
+    → Among s t
+    → NoNewSelector (recordsOf s) (recordsOf t)
+    → Keeps (under s p) (under t p)
+demand-three p s t a b among kept =
+    let key = layout-key-full (keyByte (p .header)) (keyTarget (p .header)) (selectorOf (catalogue s) (p .header) (p .body)) in
+    keeps (catalogue s) (catalogue t) (supplement-within s t b among) _ _ key (messages-alike p s t b among kept)

@@ -74,7 +74,7 @@ module _ (c : Catalogue) (o : Option LayoutRow) where
 pub rows-most : (s : List ℕ) (p : Parts) → length (reportBytes (under s p)) ≤ RowsMost
 unfolding reportBytes reportOf linesOf
 rows-most s p =
-    let m : Message = messageOf p in
+    let m : Message = messageOf (catalogue s) p in
     let o : Option LayoutRow = catalogue s .layout (m .key) in
     let groups : List Line = groupLines (map (groupOf (catalogue s) o) (m .parts)) in
     omega (

@@ -28,7 +28,7 @@ fitted room rows = cond (ltb room (length rows)) (refused OutputShort 0) (shown 
 
 -- The report of a frame's parts under a supplement.
 abbrev pub under : List ℕ → Parts → Report
-under s p = reportOf (catalogue s) (messageOf p)
+under s p = reportOf (catalogue s) (messageOf (catalogue s) p)
 
 -- The rows of what was read.
 unfoldable pub answerOf : List ℕ → Outcome Parts → ℕ → Answer (List ℕ)

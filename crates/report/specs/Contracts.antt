@@ -23,7 +23,7 @@ use Rattle.report.specs.declared.tally.Tally.{Tally}
 use Rattle.report.specs.Line.{isFlagged, isUnknown}
 use Rattle.report.specs.Verdict.{any}
 use Rattle.report.specs.Rows.{row, rowsOf, reportBytes}
-use Rattle.report.specs.Report.{messageFrom, reportOf}
+use Rattle.report.specs.Report.{reportFrom}
 use Rattle.report.specs.Answer.{Answer, fitted}
 use Rattle.report.specs.Fraction.{IsFraction}
 use Rattle.report.specs.Answer as answer
@@ -37,7 +37,7 @@ Cuts run (accepted z) = (z .header + z .body ≤ length run) × (length run ≤ 
 unfoldable pub cutAnswer : List ℕ → List ℕ → Outcome Sizes → ℕ → Answer (List ℕ)
 cutAnswer s run (refused n) room = answer.refused n 0
 cutAnswer s run (accepted z) room =
-    fitted room (reportBytes (reportOf (catalogue s) (messageFrom (take (z .header) run) (take (z .body) (drop (z .header) run)) (z .kind))))
+    fitted room (reportBytes (reportFrom (catalogue s) (take (z .header) run) (take (z .body) (drop (z .header) run)) (z .kind)))
 
 unfoldable pub sizesAnswer : List ℕ → List ℕ → Outcome Sizes → ℕ → Answer (List ℕ)
 sizesAnswer s run o room = cond (eqb (check s .refusal) NoRefusal) (cutAnswer s run o room) (answer.refused (check s .refusal) (check s .place))

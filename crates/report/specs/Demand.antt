@@ -1,15 +1,16 @@
--- Demand 3, sentence by sentence, for two reports of one message.
+-- Demand 3, sentence by sentence, for two reports of one frame.
 use Prim.Native.Nat.{ℕ}
 use mathlib.Core.Path.{_≡_}
 use mathlib.Core.Logic.{_↔_, _⊎_}
 use mathlib.Core.Bool.{true, false}
 use mathlib.Core.Option.{Option, none, some}
-use lib.ListN.{getElem?}
+use lib.ListN.{length, getElem?}
 use Rattle.catalogue.specs.Record.{LayoutRow}
+use Rattle.catalogue.specs.Lookup.{Catalogue}
 use Rattle.report.specs.declared.line.Line.{Line}
 use Rattle.report.specs.Line.{isUnknown}
 use Rattle.report.specs.Verdict.{VerdictClear, VerdictFlagged}
-use Rattle.report.specs.Report.{Group, Report, verdict}
+use Rattle.report.specs.Report.{Message, Group, Report, verdict}
 use Rattle.report.specs.Rows.{row}
 
 -- The name of a line: an item by its group and its number in the order of the layout's PRNs; a group's remainder; the response.
@@ -42,7 +43,18 @@ Lacks r (item g i) = layoutIn (getElem? (r .groups) g) ≡ none
 Lacks r (remainder g) = ⊥
 Lacks r response = ⊥
 
--- The report under the first supplement and that under the second, the records of the first standing in the second:
+-- A frame's messages under two catalogues: one message; or two, for neither of which the first catalogue has a layout.
+pub record Neither (c : Catalogue) (m n : Message) : Type 0 where
+  pub own : c .layout (m .key) ≡ none
+  pub other : c .layout (n .key) ≡ none
+  pub parts : length (m .parts) ≡ length (n .parts)
+  pub kind : m .kind ≡ n .kind
+
+abbrev pub Alike : Catalogue → Message → Message → Type 0
+Alike c m n = (m ≡ n) ⊎ Neither c m n
+
+-- The report under the first supplement and that under the second, the records of the first standing in the second, which has no new
+-- selector length for a header of the first's layouts:
 pub record Keeps (old new : Report) : Type 0 where
   -- "What the first shows as anything but Unknown is the same under the second;
   pub shown : (n : Name) (l : Line) → lineAt old n ≡ some l → isUnknown l ≡ false → lineAt new n ≡ some l

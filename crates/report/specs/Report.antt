@@ -1,15 +1,15 @@
--- The report of a message: document 01, "The report".
+-- The report of a message: document 01, "The report"; document 02, K5.
 use Prim.Native.Nat.{ℕ, _-_, _*_, _%_}
 use mathlib.Core.Bool.{cond}
 use mathlib.Core.List.{List, [], _∷_, _++_, map}
 use mathlib.Core.Option.{Option, none, some}
 use lib.Dec.{eqb}
-use lib.ListN.{length, getD}
+use lib.ListN.{length, take, getD}
 use Rattle.frame.specs.Header.{bitH}
 use Rattle.frame.specs.Response.{KindData, kindNumber}
 use Rattle.frame.specs.Frame.{Parts}
 use Rattle.catalogue.specs.Record.{LayoutRow}
-use Rattle.catalogue.specs.Lookup.{Catalogue, layoutKey}
+use Rattle.catalogue.specs.Lookup.{Catalogue, lengthFor, layoutKey}
 use Rattle.report.specs.declared.spots.Place.{Place}
 use Rattle.report.specs.declared.spots.Place.the-variants.{Bit, Lost, Past}
 use Rattle.report.specs.declared.spots.Spot.{Spot}
@@ -41,24 +41,28 @@ keyByte header = let b : ℕ = getD header 0 0 in cond (eqb (bitH b) 0) (b % 32)
 unfoldable pub keyTarget : List ℕ → ℕ
 keyTarget header = cond (eqb (bitH (getD header 0 0)) 0) (getD header 1 0) 0
 
--- "the first data byte as selector, absent if there are no data": whether there is one, 1 or 0.
-unfoldable pub present : List ℕ → ℕ
-present body = cond (eqb (length body) 0) 0 1
+-- As many data bytes as the selector's length for the header: "If the data are shorter than the length, the selector is what there is."
+abbrev pub selectorOf : Catalogue → List ℕ → List ℕ → List ℕ
+selectorOf c header body = take (lengthFor c (keyByte header) (keyTarget header)) body
 
 -- "The layout sought"
 abbrev pub soughtKey : List ℕ → List ℕ → List ℕ
-soughtKey header body = layoutKey (keyByte header) (keyTarget header) (present body) (getD body 0 0)
+soughtKey header selector = layoutKey (keyByte header) (keyTarget header) selector
 
 -- "The items follow the selector"
-abbrev pub dataPart : List ℕ → Part
-dataPart body = record { bytes = body; from = 8 * present body; to = 8 * length body; prns = λ l. l .prns }
+abbrev pub dataPart : List ℕ → List ℕ → Part
+dataPart selector body = record { bytes = body; from = 8 * length selector; to = 8 * length body; prns = λ l. l .prns }
 
--- The message of a header, data and a response kind, and so of a frame's parts.
-abbrev pub messageFrom : List ℕ → List ℕ → ℕ → Message
-messageFrom header body kind = record { key = soughtKey header body; parts = dataPart body ∷ []; kind = kind }
+-- The message of a header, a selector, data and a response kind;
+abbrev pub messageWith : List ℕ → List ℕ → List ℕ → ℕ → Message
+messageWith header selector body kind = record { key = soughtKey header selector; parts = dataPart selector body ∷ []; kind = kind }
 
-abbrev pub messageOf : Parts → Message
-messageOf p = messageFrom (p .header) (p .body) (kindNumber (p .kind))
+-- with the selector that the catalogue asks for; and so of a frame's parts.
+abbrev pub messageFrom : Catalogue → List ℕ → List ℕ → ℕ → Message
+messageFrom c header body kind = messageWith header (selectorOf c header body) body kind
+
+abbrev pub messageOf : Catalogue → Parts → Message
+messageOf c p = messageFrom c (p .header) (p .body) (kindNumber (p .kind))
 
 -- A group: its part, the layout if there is one, its item lines and its remainder. A report is groups and the response.
 pub record Group : Type 0 where
@@ -99,6 +103,10 @@ responseLine kind = cond (eqb kind KindData) (Unknown DataResponse) (Answered ki
 -- "A report uses the layout sought, if the supplement has it."
 unfoldable pub reportOf : Catalogue → Message → Report
 reportOf c m = record { groups = map (groupOf c (c .layout (m .key))) (m .parts); response = responseLine (m .kind) }
+
+-- The report of a header, data and a response kind.
+abbrev pub reportFrom : Catalogue → List ℕ → List ℕ → ℕ → Report
+reportFrom c header body kind = reportOf c (messageFrom c header body kind)
 
 -- Every line that is shown: "item lines, then a remainder line, a response line".
 unfoldable pub groupLines : List Group → List Line

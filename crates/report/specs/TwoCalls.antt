@@ -33,7 +33,7 @@ pub record Compared (o : Outcome Parts) (s t old new : List ℕ) : Type 0 where
   pub lacks :
       (g i : ℕ) (l : Line)
       → lineAt (under t parts) (item g i) ≡ some l
-      → Lacks (under s parts) (item g i) ↔ (catalogue s .layout (messageOf parts .key) ≡ none)
+      → Lacks (under s parts) (item g i) ↔ (catalogue s .layout (messageOf (catalogue t) parts .key) ≡ none)
   -- and the verdicts that the rows end in keep it too.
   pub clear : verdictIn old ≡ VerdictClear → verdictIn new ≡ VerdictClear
   pub flagged : verdictIn old ≡ VerdictFlagged → verdictIn new ≡ VerdictFlagged

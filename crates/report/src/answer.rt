@@ -12,7 +12,7 @@ ghost use lib.ListN.{length};
 ghost use Rattle.frame.specs.Frame.{readingOf, MostBytes};
 ghost use Rattle.catalogue.specs.Supplement.{recordsOf, Good};
 ghost use Rattle.catalogue.specs.Lookup.{catalogue};
-ghost use Rattle.report.specs.Report.{messageFrom, reportOf};
+ghost use Rattle.report.specs.Report.{reportFrom};
 ghost use Rattle.report.specs.Rows.{reportBytes};
 ghost use Rattle.report.specs.Answer.{fitted, outAfter, sized, reportedOf};
 ghost use Rattle.report.specs.Contracts.{Cuts, sizesAnswer};
@@ -32,8 +32,8 @@ pub(crate) fn parts_report(
     out: &mut [u8],
 ) -> Reported
     requires { ⌜ Good (recordsOf (now s)) × (length (now body) ≤ MostBytes) ⌝ }
-    ensures told { λ r. ⌜ reportedOf r ≡ sized (fitted (length (now (out .entry))) (reportBytes (reportOf (catalogue (now (s .entry))) (messageFrom (now (header .entry)) (now (body .entry)) kind)))) ⌝ }
-    ensures left { λ r. ⌜ now (out .exit) ≡ outAfter (fitted (length (now (out .entry))) (reportBytes (reportOf (catalogue (now (s .entry))) (messageFrom (now (header .entry)) (now (body .entry)) kind)))) (now (out .entry)) ⌝ }
+    ensures told { λ r. ⌜ reportedOf r ≡ sized (fitted (length (now (out .entry))) (reportBytes (reportFrom (catalogue (now (s .entry))) (now (header .entry)) (now (body .entry)) kind))) ⌝ }
+    ensures left { λ r. ⌜ now (out .exit) ≡ outAfter (fitted (length (now (out .entry))) (reportBytes (reportFrom (catalogue (now (s .entry))) (now (header .entry)) (now (body .entry)) kind))) (now (out .entry)) ⌝ }
 {
     let report = message_report(s, header, body, kind);
     let tally = report.tally;

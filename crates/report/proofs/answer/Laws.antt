@@ -18,7 +18,7 @@ use Rattle.catalogue.specs.Lookup.{catalogue}
 use Rattle.report.specs.declared.line.Line.{Line}
 use Rattle.report.specs.declared.tally.Tally.{Tally}
 use Rattle.report.specs.Verdict.{verdictOf}
-use Rattle.report.specs.Report.{Report, messageFrom, reportOf, linesOf, verdict}
+use Rattle.report.specs.Report.{Report, reportFrom, linesOf, verdict}
 use Rattle.report.specs.Rows.{ByteRow, rowsOf, verdictRow, reportBytes}
 use Rattle.report.specs.Answer.{Answer, refused, shown, fitted, under, answerOf, reportAnswer, outAfter, sized}
 use Rattle.report.specs.Contracts.{Cuts, cutAnswer, sizesAnswer, tallyOf}
@@ -112,7 +112,7 @@ module _ (run response : List ℕ) (o : Outcome Parts) (hands : (p : Parts) → 
   cut-same s room (frame.refused n) e = refl
   cut-same s room (frame.accepted p) e =
       let h = hands p e in
-      λ i. fitted room (reportBytes (reportOf (catalogue s) (messageFrom (sym (h .header) i) (sym (h .body) i) (kindNumber (p .kind)))))
+      λ i. fitted room (reportBytes (reportFrom (catalogue s) (sym (h .header) i) (sym (h .body) i) (kindNumber (p .kind))))
 
   pub sizes-answer : (s : List ℕ) (room : ℕ) (q : Outcome Sizes) → q ≡ sizes o → sizesAnswer s run q room ≡ reportAnswer s o room
   unfolding sizesAnswer reportAnswer

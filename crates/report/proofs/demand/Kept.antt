@@ -6,6 +6,7 @@ use mathlib.Core.List.{List, [], _∷_, map}
 use mathlib.Core.Option.{Option, none, some}
 use Prim.Native.Nat.{ℕ}
 use native.Mathlib.Omega.{arith}
+use lib.ListN.{length}
 use Rattle.catalogue.specs.declared.rows.PrnRow.{PrnRow}
 use Rattle.catalogue.specs.declared.rows.SlotRow.{SlotRow}
 use Rattle.catalogue.specs.Record.{LayoutRow}
@@ -137,6 +138,11 @@ pub record GroupKept (g h : Group) : Type 0 where
       (AllWith Kept (g .items) (h .items) × (g .layout ≡ none → ⊥))
       ⊎ ((g .items ≡ []) × (g .layout ≡ none) × (isUnknown (g .remainder) ≡ true))
 
+-- Without a layout there is no item line, whatever part the group is read from.
+pub group-gone : (c d : Catalogue) (q : Option LayoutRow) (p p′ : Part) → GroupKept (groupOf c none p) (groupOf d q p′)
+unfolding groupOf
+group-gone c d q p p′ = record { remainder = inr refl; items = inr (refl, refl, refl) }
+
 pub group-kept :
     (c d : Catalogue)
     → Within c d
@@ -145,7 +151,7 @@ pub group-kept :
     → (p : Part)
     → GroupKept (groupOf c o p) (groupOf d q p)
 unfolding groupOf
-group-kept c d w none q u p = record { remainder = inr refl; items = inr (refl, refl, refl) }
+group-kept c d w none q u p = group-gone c d q p p
 group-kept c d w (some l) q u p =
     let same = spots-same (c .prn) (d .prn) (w .prn) (p .to) (p .prns l) (Bit (p .from)) (Bit (p .from)) (inl refl) in
     let after = after-same (spotsIn c p l) (spotsIn d p l) same (Bit (p .from)) (Bit (p .from)) (inl refl) in
@@ -156,7 +162,16 @@ group-kept c d w (some l) q u p =
       items = inl (lines, λ e. let z : _≡_ {A = ℕ} 0 1 = cc in omega arith);
     })
 
--- So are all groups of a message.
+-- So are all groups of a message, and of one whose parts lie otherwise where there is no layout.
+pub groups-gone :
+    (c d : Catalogue) (q : Option LayoutRow) (ps qs : List Part)
+    → length ps ≡ length qs
+    → AllWith GroupKept (map (groupOf c none) ps) (map (groupOf d q) qs)
+groups-gone c d q [] [] e = tt
+groups-gone c d q [] (p′ ∷ qs) e = absurd (omega arith)
+groups-gone c d q (p ∷ ps) [] e = absurd (omega arith)
+groups-gone c d q (p ∷ ps) (p′ ∷ qs) e = (group-gone c d q p p′, groups-gone c d q ps qs (omega arith))
+
 pub groups-kept :
     (c d : Catalogue)
     → Within c d

@@ -4,18 +4,17 @@ use mathlib.Core.List.{List, [], _∷_, _++_, append-nil}
 use mathlib.Core.Option.{Option, none, some}
 use Prim.Native.Nat.{ℕ, _+_, _*_, _≤_, _%_}
 use native.Mathlib.Omega.{arith}
-use borrow.Author.Tests.{eq-eqb, ne-eqb, eqb-false}
-use lib.Dec.{eqb}
-use lib.ListN.{length, getD, length-append, length-map}
+use borrow.Author.Tests.{eq-eqb, ne-eqb}
+use lib.ListN.{length, take, getD, length-take, length-append, length-map}
 use Rattle.frame.specs.Header.{ThreeByteForm, headerSize}
-use Rattle.frame.proofs.bytes.Laws.{cases}
 use Rattle.frame.proofs.header.Laws.{three-exactly}
 use Rattle.catalogue.specs.Record.{LayoutRow}
 use Rattle.catalogue.specs.Lookup.{Catalogue}
 use Rattle.report.specs.declared.line.Line.{Line}
 use Rattle.report.specs.declared.spots.Place.the-variants.{Bit}
 use Rattle.report.specs.Items.{itemLine}
-use Rattle.report.specs.Report.{Part, keyByte, keyTarget, present, soughtKey, messageFrom, groupOf, groupLines, spotsIn, responseLine, reportOf, linesOf}
+use Rattle.report.specs.Report.{Part, keyByte, keyTarget, selectorOf, messageFrom}
+use Rattle.report.specs.Report.{groupOf, groupLines, spotsIn, responseLine, reportOf, reportFrom, linesOf}
 use Rattle.report.proofs.spots.Laws.{spots-length}
 
 -- The key of a header of three bytes, and of one.
@@ -27,19 +26,9 @@ pub key-of-one : (h : List ℕ) → (headerSize h ≡ ThreeByteForm → ⊥) →
 unfolding keyByte keyTarget
 key-of-one h e = (rw (three-exactly h, ne-eqb (headerSize h) ThreeByteForm e), rw (three-exactly h, ne-eqb (headerSize h) ThreeByteForm e))
 
--- There is a selector exactly where there are data, and it is within them.
-pub present-none : (body : List ℕ) → length body ≡ 0 → present body ≡ 0
-unfolding present
-present-none body e = rw (eq-eqb (length body) 0 e)
-
-pub present-some : (body : List ℕ) → (length body ≡ 0 → ⊥) → present body ≡ 1
-unfolding present
-present-some body e = rw (ne-eqb (length body) 0 e)
-
-pub present-within : (body : List ℕ) → 8 * present body ≤ 8 * length body
-unfolding present
-present-within body =
-    cases (eqb (length body) 0) (λ t. rw t (omega arith)) (λ f. rw f (omega (arith, eqb-false (length body) 0 f)))
+-- The selector is within the data.
+pub selector-within : (n : ℕ) (body selector : List ℕ) → selector ≡ take n body → length selector ≤ length body
+selector-within n body selector e = omega (arith, ap length e, length-take n body)
 
 -- A group has as many items as its layout has PRNs.
 pub items-most :
@@ -67,11 +56,11 @@ group-count c o p =
 -- The lines of a report, from those of its group and its response.
 pub report-lines :
     (c : Catalogue) (h b : List ℕ) (kind : ℕ) (o : Option LayoutRow) (from : ℕ) (ls : List Line) (r : Line)
-    → o ≡ c .layout (soughtKey h b)
-    → from ≡ 8 * present b
+    → o ≡ c .layout (messageFrom c h b kind .key)
+    → from ≡ 8 * length (selectorOf c h b)
     → ls ≡ groupLines (groupOf c o (record { bytes = b; from = from; to = 8 * length b; prns = λ l. l .prns }) ∷ [])
     → r ≡ responseLine kind
-    → ls ++ r ∷ [] ≡ linesOf (reportOf c (messageFrom h b kind))
+    → ls ++ r ∷ [] ≡ linesOf (reportFrom c h b kind)
 unfolding reportOf linesOf
 report-lines c h b kind o from ls r p q e f =
     λ i.

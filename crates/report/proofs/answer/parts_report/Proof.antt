@@ -9,7 +9,7 @@ use Rattle.frame.specs.Bytes.{Bytes, placed}
 use Rattle.frame.specs.Refusal.{OutputShort}
 use Rattle.catalogue.specs.Lookup.{catalogue}
 use Rattle.report.specs.Verdict.{verdictOf}
-use Rattle.report.specs.Report.{Report, messageFrom, reportOf, linesOf}
+use Rattle.report.specs.Report.{Report, messageFrom, reportFrom, linesOf}
 use Rattle.report.specs.Rows.{ByteRow, rowsOf, verdictRow, reportBytes}
 use Rattle.report.specs.Answer.{refused, shown}
 use Rattle.report.specs.Contracts.{allHold, linesIn}
@@ -24,7 +24,7 @@ use Rattle.report.proofs.answer.parts_report.Tie as tie
 abbrev report : tie.After-message-report → Report
 report c =
     let a = c .before .before .before .before .before .args in
-    reportOf (catalogue (a .s .now)) (messageFrom (a .header .now) (a .body .now) (a .kind))
+    reportFrom (catalogue (a .s .now)) (a .header .now) (a .body .now) (a .kind)
 
 abbrev asked : tie.After-message-report → List ℕ
 asked c = reportBytes (report c)
@@ -54,7 +54,7 @@ holds c =
     let a = start .args in
     let bytes : Bytes (a .s .now) = λ i. c .before .before .before .before .shared-slice-known .given i .fits in
     subst allHold (sym (c .message-report .ensures .lines))
-    (numbers-hold (a .s .now) bytes (start .pre .0) (messageFrom (a .header .now) (a .body .now) (a .kind)))
+    (numbers-hold (a .s .now) bytes (start .pre .0) (messageFrom (catalogue (a .s .now)) (a .header .now) (a .body .now) (a .kind)))
 
 put-report-requires : tie.Need-put-report-requires
 put-report-requires c κs =

@@ -12,7 +12,7 @@ use Rattle.frame.specs.Refusal as frame
 use Rattle.catalogue.specs.Supplement.{Accepted}
 use Rattle.catalogue.specs.Lookup.{catalogue}
 use Rattle.catalogue.proofs.Accepted.{good}
-use Rattle.report.specs.Report.{messageFrom, reportOf}
+use Rattle.report.specs.Report.{reportFrom}
 use Rattle.report.specs.Rows.{reportBytes}
 use Rattle.report.specs.Answer.{refused, fitted}
 use Rattle.report.specs.Contracts.{Cuts, cutAnswer, sizesAnswer}
@@ -95,7 +95,7 @@ returns-3 c =
     let h = given at .header in
     let body = add-sub-cancel-left h (given at .body) in
     let rows : ℕ → List ℕ =
-    (λ n. reportBytes (reportOf (catalogue (a .supplement .now)) (messageFrom (take h (run at)) (take n (drop h (run at))) (given at .kind)))) in
+    (λ n. reportBytes (reportFrom (catalogue (a .supplement .now)) (take h (run at)) (take n (drop h (run at))) (given at .kind))) in
     let same = ap (λ (n : ℕ). fitted (length (a .out .now)) (rows n)) body in
     let e = settled _ _ (a .out .now) (same ∙ answered (at .before .before .before) (accepted (given at)) (told at)) in
     (c .before .before .parts-report .ensures .0 ∙ e .0, c .before .before .parts-report .ensures .1 ∙ e .1)
