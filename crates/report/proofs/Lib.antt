@@ -1,6 +1,7 @@
 pub mod demand
 pub mod Fraction
 pub mod Left
+pub mod Selector
 pub mod Judged
 pub mod Size
 pub mod DemandThree

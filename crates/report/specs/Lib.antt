@@ -10,6 +10,7 @@ pub mod Answer
 pub mod Fraction
 pub mod Demand
 pub mod Left
+pub mod Selector
 pub mod Judged
 pub mod TwoCalls
 pub mod Contracts

@@ -3,7 +3,7 @@ use mathlib.Core.Path.{_≡_, refl, sym, ap, _∙_}
 use Rattle.frame.proofs.bytes.Laws.{below}
 use mathlib.Core.Bool.{Bool}
 use lib.Dec.{eqb, eqb→eq}
-use mathlib.Core.List.{List}
+use mathlib.Core.List.{List, _++_}
 use Prim.Native.Nat.{ℕ, zero, suc, _+_, _-_, _*_, _/_, _%_, _^_, _≤_, _<_}
 use native.Mathlib.Nat.{zero-div, lt-of-lt-of-le}
 use native.Mathlib.Numerals.{add-one}
@@ -11,6 +11,7 @@ use native.Mathlib.Omega.{arith}
 use lib.Bits.{bitAnd, and-mask}
 use lib.ListN.{length, getD, List·getD-eq-default}
 use lib.Pow.{pow-mono}
+use lib.Seq.{getD-append-add}
 use Rattle.report.specs.Bits.{bitAt, cut}
 
 -- A bit is 0 or 1; it is the byte moved down and masked; past the end it is 0.
@@ -39,6 +40,24 @@ cut-next s at w = rw add-one
 
 pub cut-below : (s : List ℕ) (at w k : ℕ) → w ≤ k → cut s at w < 2 ^ k
 cut-below s at w k h = lt-of-lt-of-le (cut-lt s at w) (pow-mono h)
+
+-- Behind other bytes, a bit and a number are those of the bytes themselves.
+bit-behind : (xs ys : List ℕ) (i : ℕ) → bitAt (xs ++ ys) (8 * length xs + i) ≡ bitAt ys i
+unfolding bitAt
+bit-behind xs ys i =
+    let place : (8 * length xs + i) / 8 ≡ length xs + i / 8 = omega arith in
+    let bit : (8 * length xs + i) % 8 ≡ i % 8 = omega arith in
+    let byte : getD (xs ++ ys) ((8 * length xs + i) / 8) 0 ≡ getD ys (i / 8) 0 =
+    ap (λ (k : ℕ). getD (xs ++ ys) k 0) place ∙ getD-append-add xs ys (i / 8) 0 in
+    λ j. byte j / 2 ^ (7 - bit j) % 2
+
+pub cut-behind : (xs ys : List ℕ) (at w : ℕ) → cut (xs ++ ys) (8 * length xs + at) w ≡ cut ys at w
+unfolding cut
+cut-behind xs ys at zero = refl
+cut-behind xs ys at (suc w) =
+    let bit : bitAt (xs ++ ys) (8 * length xs + at + w) ≡ bitAt ys (at + w) =
+    ap (bitAt (xs ++ ys)) (omega arith) ∙ bit-behind xs ys (at + w) in
+    λ j. cut-behind xs ys at w j * 2 + bit j
 
 -- A bit of the byte that starts at a place.
 bit-of : (s : List ℕ) (i k : ℕ) → i % 8 ≡ 0 → k < 8 → bitAt s (i + k) ≡ getD s (i / 8) 0 / 2 ^ (7 - k) % 2
