@@ -7,3 +7,4 @@ pub mod Size
 pub mod DemandThree
 pub mod TwoCalls
 pub mod Buses
+pub mod Former

@@ -13,4 +13,5 @@ pub mod Left
 pub mod Selector
 pub mod Judged
 pub mod TwoCalls
+pub mod Former
 pub mod Contracts
