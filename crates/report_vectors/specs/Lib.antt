@@ -1,2 +1,3 @@
-pub mod BenchCases
 pub mod Input
+pub mod BenchCases
+pub mod Premise
