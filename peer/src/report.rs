@@ -16,8 +16,9 @@ use crate::frame::refusal::OUTPUT_SHORT;
 use crate::frame::{iso, reader, Parts};
 use crate::sae::{self, Key, Prn, Slot};
 use crate::supplement;
-use crate::supplement::layout::Layout;
+use crate::supplement::layout::{Layout, LayoutKey};
 use crate::supplement::records::Records;
+use crate::supplement::selector_length::{Header, MOST, USUAL};
 use item::{Item, Place, WIDEST};
 use line::{row_kind, unknown, Line};
 
@@ -30,16 +31,56 @@ pub struct Request<'a> {
     pub out_length: usize,
 }
 
-/// The first byte without its priority if H = 0; the target, or 0 if H = 1;
-/// the first data byte as selector, absent if there are no data.
-pub fn layout_key(parts: &Parts) -> [u8; 4] {
-    let (first_byte, target) = match parts.header {
-        [first_byte] => (*first_byte, 0),
-        header => (header[0] & 0x1F, header[1]),
-    };
-    match parts.data.first() {
-        Some(selector) => [first_byte, target, 1, *selector],
-        None => [first_byte, target, 0, 0],
+/// The first byte without its priority if H = 0; the target, or 0 if H = 1.
+pub fn header_of(parts: &Parts) -> Header {
+    match parts.header {
+        [first_byte] => [*first_byte, 0],
+        header => [header[0] & 0x1F, header[1]],
+    }
+}
+
+/// What a report seeks with an accepted frame's parts, and where its items begin.
+#[derive(Debug, PartialEq)]
+pub struct Sought<'a> {
+    pub header: Header,
+    /// The selector's length: what the header's kind 4 record says, if there is one.
+    pub length: usize,
+    /// What there is of the data up to that length.
+    pub selector: &'a [u8],
+    /// The data behind the selector.
+    pub items: &'a [u8],
+}
+
+impl<'a> Sought<'a> {
+    pub fn of(records: &Records, parts: &Parts<'a>) -> Sought<'a> {
+        let header = header_of(parts);
+        Sought::of_length(records.selector_length(header), parts)
+    }
+
+    /// The same, told what the header's kind 4 record says.
+    pub fn of_length(recorded: Option<u8>, parts: &Parts<'a>) -> Sought<'a> {
+        let length = usize::from(recorded.unwrap_or(USUAL));
+        let (selector, items) = parts.data.split_at(length.min(parts.data.len()));
+        Sought {
+            header: header_of(parts),
+            length,
+            selector,
+            items,
+        }
+    }
+
+    /// The layout's length is the number of selector bytes that there are; absent
+    /// ones are zero.
+    pub fn layout_key(&self) -> LayoutKey {
+        let [first_byte, target] = self.header;
+        let mut selector = [0; MOST];
+        selector[..self.selector.len()].copy_from_slice(self.selector);
+        let length = self.selector.len() as u8;
+        [first_byte, target, length, selector[0], selector[1]]
+    }
+
+    pub fn bits(&self) -> usize {
+        8 * self.items.len()
     }
 }
 
@@ -55,12 +96,12 @@ fn find_slot(records: &Records, key: Key) -> Option<Slot> {
 /// The lines of an accepted supplement and an accepted frame's parts: those of
 /// the items, the remainder and the response.
 pub fn lines(records: &Records, parts: &Parts) -> Vec<Line> {
-    let layout = records.layout(layout_key(parts));
-    let data = parts.data.get(1..).unwrap_or_default();
+    let sought = Sought::of(records, parts);
+    let layout = records.layout(sought.layout_key());
     let mut lines = Vec::new();
     let mut place = Place::At(0);
     for prn in layout.iter().flat_map(Layout::used) {
-        let item = item_at(place, find_prn(records, *prn), records, data);
+        let item = item_at(place, find_prn(records, *prn), records, sought.items);
         let line = item::line(&item);
         place = item::place_after(&item, &line);
         lines.push(line);
@@ -69,7 +110,7 @@ pub fn lines(records: &Records, parts: &Parts) -> Vec<Line> {
         _ if layout.is_none() => Line::Unknown(unknown::NO_LAYOUT),
         Place::Lost => Line::Unknown(unknown::PLACE_LOST),
         Place::Past => Line::Short,
-        Place::At(end) => Line::Left((8 * data.len() - end) as u8),
+        Place::At(end) => Line::Left((sought.bits() - end) as u8),
     });
     lines.push(match parts.kind {
         kind @ 0..=2 => Line::Answered(kind),

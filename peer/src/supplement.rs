@@ -1,9 +1,11 @@
-//! The supplement: records of SLOTs, PRNs and layouts beside the SAE tables.
+//! The supplement: records of SLOTs, PRNs, layouts and selector lengths beside the
+//! SAE tables.
 
 pub mod draft;
 pub mod layout;
 pub mod record;
 pub mod records;
+pub mod selector_length;
 
 use record::{key_of, Record};
 use std::collections::HashSet;

@@ -14,6 +14,8 @@ mod report_iso;
 mod report_iso_bench;
 mod report_items;
 mod report_places;
+mod report_selector_bench;
+mod report_selectors;
 mod report_states;
 mod report_tables;
 pub mod stream;
@@ -64,7 +66,7 @@ impl Files {
         if is_new {
             self.stdin += &line;
             self.expect(&(format.expected)(case, answer.0, &answer.1));
-            self.counts.count_answer(case.call, &answer);
+            self.counts.count_answer(case, &answer);
         }
         is_new
     }

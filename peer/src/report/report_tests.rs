@@ -8,14 +8,15 @@ use crate::frame::check_byte::checked;
 use crate::frame::draft::Draft;
 use crate::random::Random;
 use crate::sae::form::*;
-use crate::supplement::draft::{layout_record, prn_record, slot_record};
+use crate::supplement::draft::{layout_record, prn_record, selector_length_record, slot_record};
 use crate::supplement::layout::Layout;
 use crate::supplement::record::{length_of, LAYOUT};
 use crate::supplement::refused_answer;
+use crate::supplement::selector_length::SelectorLength;
 
 /// The supplement of the whole report among the bench cases.
 fn bench_supplement() -> Vec<u8> {
-    let layout = Layout::of_key([0x08, 0x6B, 1, 0x41]);
+    let layout = Layout::of_key([0x08, 0x6B, 1, 0x41, 0]);
     layout_record(&layout.with_prns(&[0x1025, 0x100B]))
 }
 
@@ -72,13 +73,49 @@ fn order_of_refusals() {
 
 #[test]
 fn keys_of_layouts() {
-    let key = |header: &[u8], data: &[u8]| {
-        layout_key(&super::scene::parts_of(&Draft::new(header, data, &[])))
+    let key = |recorded: Option<u8>, header: &[u8], data: &[u8]| {
+        let frame = Draft::new(header, data, &[]);
+        Sought::of_length(recorded, &super::scene::parts_of(&frame)).layout_key()
     };
-    assert_eq!(key(&[0xE8, 0x6B, 0x10], &[0x41, 1]), [0x08, 0x6B, 1, 0x41]);
-    assert_eq!(key(&[0xE8, 0x6B, 0x10], &[]), [0x08, 0x6B, 0, 0]);
-    assert_eq!(key(&[0xF8], &[0]), [0xF8, 0, 1, 0]);
-    assert_eq!(key(&[0x18], &[]), [0x18, 0, 0, 0]);
+    let (three, data) = (&[0xE8, 0x6B, 0x10], &[0x41, 0x0C, 1]);
+    assert_eq!(key(None, three, data), [0x08, 0x6B, 1, 0x41, 0]);
+    assert_eq!(key(Some(0), three, data), [0x08, 0x6B, 0, 0, 0]);
+    assert_eq!(key(Some(1), three, data), [0x08, 0x6B, 1, 0x41, 0]);
+    assert_eq!(key(Some(2), three, data), [0x08, 0x6B, 2, 0x41, 0x0C]);
+    assert_eq!(key(Some(2), three, &data[..1]), [0x08, 0x6B, 1, 0x41, 0]);
+    for recorded in [None, Some(0), Some(1), Some(2)] {
+        assert_eq!(key(recorded, three, &[]), [0x08, 0x6B, 0, 0, 0]);
+        assert_eq!(key(recorded, &[0x18], &[]), [0x18, 0, 0, 0, 0]);
+    }
+    assert_eq!(key(None, &[0xF8], &[0]), [0xF8, 0, 1, 0, 0]);
+    assert_eq!(key(Some(2), &[0xF8], &[7, 0]), [0xF8, 0, 2, 7, 0]);
+}
+
+/// Only the record of the frame's own header tells its selector's length.
+#[test]
+fn lengths_by_header() {
+    let record = |header, length| selector_length_record(&SelectorLength { header, length });
+    let supplement = [
+        record([0x08, 0x6A], 0),
+        record([0x08, 0x6B], 2),
+        record([0x18, 0], 0),
+    ];
+    let records = Records::of(&supplement.concat());
+    let length = |header: &[u8]| {
+        let frame = Draft::new(header, &[0x41, 0x0C, 0x65], &[]);
+        let parts = super::scene::parts_of(&frame);
+        let sought = Sought::of(&records, &parts);
+        let selector = sought.length.min(3);
+        assert_eq!(sought.selector, &frame.data[..selector]);
+        assert_eq!(sought.items, &frame.data[selector..]);
+        sought.length
+    };
+    assert_eq!(length(&[0x48, 0x6A, 0x10]), 0);
+    assert_eq!(length(&[0xE8, 0x6B, 0x10]), 2);
+    assert_eq!(length(&[0x48, 0x6C, 0x10]), 1);
+    assert_eq!(length(&[0x49, 0x6B, 0x10]), 1);
+    assert_eq!(length(&[0x18]), 0);
+    assert_eq!(length(&[0x38]), 1);
 }
 
 fn rows_of(samples: &[Sample], data: usize) -> Vec<u8> {
@@ -131,7 +168,7 @@ fn responses() {
 fn tables_beside_each_other() {
     let (own, slot) = own_rows(0, BMP, 8);
     let (text, packet) = (whole_slot(ASC, 8, 11), whole_slot(PKT, 8, 1));
-    let layout = Layout::of_key([0x18, 0, 1, 0x41]);
+    let layout = Layout::of_key([0x18, 0, 1, 0x41, 0]);
     let layout = layout.with_prns(&[0x100D, 0x1805, 0x2000]);
     let first = checked(&[0x18, 0x41, 0x42, 0x43, 0x44]);
     let rows = |records: &[Vec<u8>]| {
@@ -164,6 +201,10 @@ fn the_longest_report() {
     assert_eq!(rows.len(), LONGEST);
     assert!(rows.ends_with(&[9, 0, 10, 0, 11, 1]));
     assert_eq!(rows_of(&[], 10), [9, 72, 10, 0, 11, 2]);
+    let mut random = Random::new(64);
+    let frame = super::scene::frame(0x18, 10, &mut random);
+    let all_left = Scene::of_length(Some(0), frame).case().answer().1;
+    assert_eq!(all_left, [9, 80, 10, 0, 11, 2]);
 }
 
 #[test]
@@ -180,7 +221,7 @@ fn both_buses_share_layouts_and_lines() {
 
 #[test]
 fn a_message_of_another_priority_finds_the_layout() {
-    let layout = Layout::of_key([0x08, 0x6A, 1, 0x01]).with_prns(&[0x1025]);
+    let layout = Layout::of_key([0x08, 0x6A, 1, 0x01, 0]).with_prns(&[0x1025]);
     let message = [0x68, 0x6A, 0xF1, 0x01, 0x0C, 0xD0];
     let mut rows = vec![1, 0x40, 0x28, 0, 0, 0, 0, 0, 0];
     rows.extend([0, 0, 0, 0, 0, 0, 0, 12, 0, 1, 9, 0, 10, 0, 11, 1]);

@@ -2,7 +2,7 @@
 //! made.
 
 use super::bits::put;
-use super::layout_key;
+use super::{header_of, Sought};
 use crate::case::Case;
 use crate::frame::bus::{Bus, Runs};
 use crate::frame::draft::Draft;
@@ -11,9 +11,12 @@ use crate::frame::Parts;
 use crate::random::Random;
 use crate::sae::form::SNM;
 use crate::sae::{all_ones, has_prn, has_slot, prn_row, Key, Prn, Slot};
-use crate::supplement::draft::{layout_record, prn_record, slot_record, Bytes};
+use crate::supplement::draft::{
+    layout_record, prn_record, selector_length_record, slot_record, Bytes,
+};
 use crate::supplement::layout::Layout;
 use crate::supplement::record::PLACES;
+use crate::supplement::selector_length::{SelectorLength, USUAL};
 
 /// One item: its PRN, the PRN's row and a SLOT if they are known, and the
 /// bits it has in the data.
@@ -89,6 +92,8 @@ pub struct Scene {
     pub bus: Bus,
     pub frame: Draft,
     pub layout: Layout,
+    /// The kind 4 record of the frame's header, if it has one.
+    pub selector_length: Option<SelectorLength>,
     pub prns: Vec<Prn>,
     pub slots: Vec<Slot>,
     /// Where the next item starts, in bits after the selector.
@@ -96,13 +101,22 @@ pub struct Scene {
 }
 
 impl Scene {
-    /// The layout that the frame seeks, as yet without PRNs; on J1850.
+    /// The layout that the frame seeks where no kind 4 record tells of its header,
+    /// as yet without PRNs; on J1850.
     pub fn of(frame: Draft) -> Scene {
-        let layout = Layout::of_key(layout_key(&parts_of(&frame)));
+        Scene::of_length(None, frame)
+    }
+
+    /// The same with this length in the header's kind 4 record, if it has one.
+    pub fn of_length(recorded: Option<u8>, frame: Draft) -> Scene {
+        let parts = parts_of(&frame);
+        let layout = Layout::of_key(Sought::of_length(recorded, &parts).layout_key());
+        let header = header_of(&parts);
         Scene {
             bus: Bus::J1850,
             frame,
             layout,
+            selector_length: recorded.map(|length| SelectorLength { header, length }),
             prns: Vec::new(),
             slots: Vec::new(),
             end: 0,
@@ -118,8 +132,19 @@ impl Scene {
     /// A frame with just enough data for the samples, and zero fill up to the
     /// byte's end.
     pub fn holding(first_byte: u8, samples: &[Sample], random: &mut Random) -> Scene {
+        Scene::holding_behind(None, first_byte, samples, random)
+    }
+
+    /// The same with this length in the header's kind 4 record, if it has one.
+    pub fn holding_behind(
+        recorded: Option<u8>,
+        first_byte: u8,
+        samples: &[Sample],
+        random: &mut Random,
+    ) -> Scene {
         let bits: usize = samples.iter().map(Sample::width).sum();
-        let mut scene = Scene::of(frame(first_byte, 1 + bits.div_ceil(8), random));
+        let data = usize::from(recorded.unwrap_or(USUAL)) + bits.div_ceil(8);
+        let mut scene = Scene::of_length(recorded, frame(first_byte, data, random));
         for sample in samples {
             scene.add(sample);
         }
@@ -131,7 +156,12 @@ impl Scene {
 
     /// How many bits the frame has after its selector.
     pub fn bits(&self) -> usize {
-        8 * self.frame.data.len().saturating_sub(1)
+        8 * (self.frame.data.len() - self.selector_bytes())
+    }
+
+    /// How many bytes of the data are the selector.
+    pub fn selector_bytes(&self) -> usize {
+        usize::from(self.layout.selector_length)
     }
 
     /// The next item; its bits are put in their place if the data hold them.
@@ -141,7 +171,8 @@ impl Scene {
         self.layout = self.layout.with_prns(&prns);
         let (start, width) = (self.end, sample.width());
         if width > 0 && start + width <= self.bits() {
-            put(&mut self.frame.data[1..], start, width, sample.raw);
+            let behind = self.selector_bytes();
+            put(&mut self.frame.data[behind..], start, width, sample.raw);
         }
         self.end += width;
         let is_new = |prn: &Prn| !has_prn(prn.prn) && !self.prns.contains(prn);
@@ -155,11 +186,18 @@ impl Scene {
         self.slots.iter().any(|slot| slot.key() == key)
     }
 
-    /// The layout first, then PRNs and SLOTs.
+    /// The layout first and the header's kind 4 record, then PRNs and SLOTs.
     pub fn records(&self) -> Vec<Bytes> {
-        let mut list = vec![layout_record(&self.layout)];
+        let mut list = self.seeking_records();
         list.extend(self.prns.iter().map(prn_record));
         list.extend(self.slots.iter().map(slot_record));
+        list
+    }
+
+    /// The layout and the header's kind 4 record.
+    pub fn seeking_records(&self) -> Vec<Bytes> {
+        let mut list = vec![layout_record(&self.layout)];
+        list.extend(self.selector_length.iter().map(selector_length_record));
         list
     }
 

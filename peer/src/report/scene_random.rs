@@ -13,6 +13,9 @@ use crate::sae::{all_ones, has_prn, prn_row, slot_row, Prn, Slot, PRNS, SLOTS};
 use crate::supplement::draft::{random_prn, random_slot};
 use crate::supplement::record::PLACES;
 
+/// What the kind 4 record of a scene's header says; as often there is none.
+const RECORDED: [Option<u8>; 8] = [None, None, None, None, Some(0), Some(1), Some(2), Some(2)];
+
 /// A scene on J1850.
 pub fn scene(random: &mut Random) -> Scene {
     scene_on(Bus::J1850, random)
@@ -23,7 +26,8 @@ pub fn scene_on(bus: Bus, random: &mut Random) -> Scene {
         Bus::J1850 => random_first_byte(random),
         Bus::Iso9141 => fitting_first_byte(random.byte()),
     };
-    let mut scene = Scene::of(frame(first_byte, random)).on(bus);
+    let recorded = random.pick(&RECORDED);
+    let mut scene = Scene::of_length(recorded, frame(first_byte, random)).on(bus);
     let aim = match random.below(10) {
         0 => random.below(scene.bits() + 1),
         1 => scene.bits() + random.between(1, 20),

@@ -1,7 +1,8 @@
 //! Drafts of records and supplements, from which cases are made.
 
 use super::layout::Layout;
-use super::record::{key_of, length_of, KINDS, LAYOUT, PLACES, PRN, SLOT};
+use super::record::{key_of, length_of, KINDS, LAYOUT, PLACES, PRN, SELECTOR_LENGTH, SLOT};
+use super::selector_length::{Header, SelectorLength, MOST};
 use crate::random::Random;
 use crate::sae::form::SNM;
 use crate::sae::{has_prn, has_slot, Prn, Slot};
@@ -30,10 +31,27 @@ pub fn prn_record(prn: &Prn) -> Bytes {
 }
 
 pub fn layout_record(layout: &Layout) -> Bytes {
-    let mut bytes = vec![LAYOUT, layout.first_byte, layout.target];
-    bytes.extend([layout.present, layout.selector, layout.count]);
+    let mut bytes = vec![LAYOUT];
+    bytes.extend(layout.key());
+    bytes.push(layout.count);
     bytes.extend(layout.prns.iter().flat_map(|prn| prn.to_be_bytes()));
     bytes
+}
+
+/// Where a layout's record has its count and its second selector byte.
+pub const COUNT_PLACE: usize = 6;
+pub const SECOND_SELECTOR_PLACE: usize = 5;
+
+/// The form that a layout had when a selector was one byte or absent.
+pub fn old_layout_record(layout: &Layout) -> Bytes {
+    let mut bytes = layout_record(layout);
+    bytes.remove(SECOND_SELECTOR_PLACE);
+    bytes
+}
+
+pub fn selector_length_record(record: &SelectorLength) -> Bytes {
+    let [first_byte, target] = record.header;
+    vec![SELECTOR_LENGTH, first_byte, target, record.length]
 }
 
 /// An acceptable SLOT whose key is not in the SAE tables.
@@ -89,20 +107,33 @@ pub fn random_prn(random: &mut Random) -> Prn {
     Prn::new(prn, form, width, random_number(random))
 }
 
+/// A header that a layout can have.
+pub fn random_header(random: &mut Random) -> Header {
+    let byte = random.byte();
+    match random.once_in(2) {
+        true => [byte | 0x10, 0],
+        false => [byte & 0x0F, random.byte()],
+    }
+}
+
 /// An acceptable layout.
 pub fn random_layout(random: &mut Random) -> Layout {
-    let with_h = random.once_in(2);
-    let byte = random.byte();
-    let present = random.below(2) as u8;
-    let key = [
-        if with_h { byte | 0x10 } else { byte & 0x0F },
-        if with_h { 0 } else { random.byte() },
-        present,
-        if present == 1 { random.byte() } else { 0 },
-    ];
+    let [first_byte, target] = random_header(random);
+    let mut selector = [0; MOST];
+    let length = random.between(0, MOST);
+    selector[..length].copy_from_slice(&random.bytes(length));
+    let key = [first_byte, target, length as u8, selector[0], selector[1]];
     let count = random.between(0, PLACES);
     let prns: Vec<u16> = (0..count).map(|_| random.number() as u16).collect();
     Layout::of_key(key).with_prns(&prns)
+}
+
+/// An acceptable kind 4 record.
+pub fn random_selector_length(random: &mut Random) -> SelectorLength {
+    SelectorLength {
+        header: random_header(random),
+        length: random.between(0, MOST) as u8,
+    }
 }
 
 /// An acceptable record of this kind.
@@ -110,7 +141,8 @@ pub fn random_record(kind: u8, random: &mut Random) -> Bytes {
     match kind {
         SLOT => slot_record(&random_slot(random)),
         PRN => prn_record(&random_prn(random)),
-        _ => layout_record(&random_layout(random)),
+        LAYOUT => layout_record(&random_layout(random)),
+        _ => selector_length_record(&random_selector_length(random)),
     }
 }
 
@@ -140,23 +172,34 @@ pub fn add_distinct(list: &mut Vec<Bytes>, kinds: &[u8], random: &mut Random) {
 
 /// Kinds whose records have `length` bytes together, in random order; as many
 /// bytes at least as six layouts. A SLOT record is as long as three of a PRN, so
-/// layouts give the rest of a division by the length of a PRN record.
+/// layouts and kind 4 records, which leave the same, give the rest of a division
+/// by the length of a PRN record.
 pub fn kinds_of_length(length: usize, layouts: Layouts, random: &mut Random) -> Vec<u8> {
-    let [slot, prn, layout] = KINDS.map(length_of);
+    let [_, prn, layout, selector_length] = KINDS.map(length_of);
+    assert_eq!(layout % prn, selector_length % prn, "the same rest");
     let is_rest = |count: &usize| layout * count % prn == length % prn;
-    let mut count = (0..prn).find(is_rest).expect("a rest");
+    let count = (0..prn).find(is_rest).expect("a rest");
+    let of_rest = [LAYOUT, LAYOUT, SELECTOR_LENGTH];
+    let mut kinds: Vec<u8> = (0..count).map(|_| random.pick(&of_rest)).collect();
+    let mut left = length - length_of_all(&kinds);
     if layouts == Layouts::Many {
-        count += prn * ((length - layout * count) / (layout * prn));
+        kinds.extend(vec![LAYOUT; left / (layout * prn) * prn]);
+        left = length - length_of_all(&kinds);
     }
-    let mut left = length - layout * count;
-    let mut kinds = vec![LAYOUT; count];
     while left > 0 {
-        let is_slot = left >= slot && random.once_in(2);
-        kinds.push(if is_slot { SLOT } else { PRN });
-        left -= if is_slot { slot } else { prn };
+        let mut more = random.pick(&[&[SLOT][..], &[PRN], &[SLOT], &[PRN], &[SELECTOR_LENGTH; 7]]);
+        if length_of_all(more) > left {
+            more = &[PRN];
+        }
+        kinds.extend(more);
+        left -= length_of_all(more);
     }
     shuffle(&mut kinds, random);
     kinds
+}
+
+fn length_of_all(kinds: &[u8]) -> usize {
+    kinds.iter().copied().map(length_of).sum()
 }
 
 #[derive(Clone, Copy, PartialEq)]

@@ -1,17 +1,24 @@
 //! One record of a supplement: its size, its key, its fields and their ranges.
 
 use super::layout::Layout;
+use super::selector_length::{Header, SelectorLength, MOST};
 use crate::sae::form::SNM;
 use crate::sae::{has_prn, has_slot, Prn, Slot};
 
 pub const SLOT: u8 = 1;
 pub const PRN: u8 = 2;
 pub const LAYOUT: u8 = 3;
+pub const SELECTOR_LENGTH: u8 = 4;
 
-pub const KINDS: [u8; 3] = [SLOT, PRN, LAYOUT];
+pub const KINDS: [u8; 4] = [SLOT, PRN, LAYOUT, SELECTOR_LENGTH];
 
 /// Kind byte, bytes of the body after it, and bytes of the key at its start.
-const SIZES: [(u8, usize, usize); 3] = [(SLOT, 20, 4), (PRN, 6, 2), (LAYOUT, 37, 4)];
+const SIZES: [(u8, usize, usize); 4] = [
+    (SLOT, 20, 4),
+    (PRN, 6, 2),
+    (LAYOUT, 38, 5),
+    (SELECTOR_LENGTH, 3, 2),
+];
 
 /// How many PRNs a layout has room for.
 pub const PLACES: usize = 16;
@@ -39,6 +46,7 @@ pub enum Record {
     Slot(Slot),
     Prn(Prn),
     Layout(Layout),
+    SelectorLength(SelectorLength),
 }
 
 impl Record {
@@ -49,6 +57,7 @@ impl Record {
             SLOT => Record::Slot(slot_of(body)),
             PRN => Record::Prn(prn_of(body)),
             LAYOUT => Record::Layout(layout_of(body)),
+            SELECTOR_LENGTH => Record::SelectorLength(selector_length_of(body)),
             byte => panic!("a whole record has no kind byte {byte}"),
         }
     }
@@ -58,15 +67,16 @@ impl Record {
             Record::Slot(slot) => is_slot_in_range(slot),
             Record::Prn(prn) => is_form(prn.form) && is_width(prn.width),
             Record::Layout(layout) => is_layout_in_range(layout),
+            Record::SelectorLength(record) => is_selector_length_in_range(record),
         }
     }
 
-    /// Its key is in the SAE tables, which have no layouts.
+    /// Its key is in the SAE tables, which tell of no header.
     pub fn is_in_sae(&self) -> bool {
         match self {
             Record::Slot(slot) => has_slot(slot.key()),
             Record::Prn(prn) => has_prn(prn.prn),
-            Record::Layout(_) => false,
+            Record::Layout(_) | Record::SelectorLength(_) => false,
         }
     }
 }
@@ -89,21 +99,28 @@ fn is_slot_in_range(slot: &Slot) -> bool {
     is_form(slot.form) && is_width(slot.width) && slot.divisor >= 1 && are_limits_in_order
 }
 
-/// With H = 0 no priority, with H = 1 no target; an absent selector is zero,
-/// and so are the PRNs beyond the count.
 fn is_layout_in_range(layout: &Layout) -> bool {
-    let is_start_sound = if layout.first_byte & 0x10 == 0 {
-        layout.first_byte >> 5 == 0
-    } else {
-        layout.target == 0
-    };
-    let is_selector_sound = match layout.present {
-        0 => layout.selector == 0,
-        present => present == 1,
-    };
-    let unused = layout.prns.get(usize::from(layout.count)..);
-    let is_unused_zero = unused.is_some_and(|prns| prns.iter().all(|prn| *prn == 0));
-    is_start_sound && is_selector_sound && is_unused_zero
+    is_header_in_range(layout.header())
+        && is_unused_zero(&layout.selector, layout.selector_length)
+        && is_unused_zero(&layout.prns, layout.count)
+}
+
+fn is_selector_length_in_range(record: &SelectorLength) -> bool {
+    is_header_in_range(record.header) && usize::from(record.length) <= MOST
+}
+
+/// With H = 0 no priority, with H = 1 no target.
+fn is_header_in_range([first_byte, target]: Header) -> bool {
+    match first_byte & 0x10 {
+        0 => first_byte >> 5 == 0,
+        _ => target == 0,
+    }
+}
+
+/// There are as many places as are used, and those beyond are zero.
+fn is_unused_zero<T: Default + PartialEq>(places: &[T], used: u8) -> bool {
+    let unused = places.get(usize::from(used)..);
+    unused.is_some_and(|places| places.iter().all(|place| *place == T::default()))
 }
 
 fn slot_of(body: &[u8]) -> Slot {
@@ -124,12 +141,19 @@ fn prn_of(body: &[u8]) -> Prn {
 }
 
 fn layout_of(body: &[u8]) -> Layout {
-    let mut layout = Layout::of_key([body[0], body[1], body[2], body[3]]);
-    layout.count = body[4];
+    let mut layout = Layout::of_key([body[0], body[1], body[2], body[3], body[4]]);
+    layout.count = body[5];
     for place in 0..PLACES {
-        layout.prns[place] = number_16(body, 5 + 2 * place);
+        layout.prns[place] = number_16(body, 6 + 2 * place);
     }
     layout
+}
+
+fn selector_length_of(body: &[u8]) -> SelectorLength {
+    SelectorLength {
+        header: [body[0], body[1]],
+        length: body[2],
+    }
 }
 
 /// The most significant byte comes first.

@@ -1,7 +1,8 @@
 //! The records of an accepted supplement by their fields.
 
-use super::layout::Layout;
+use super::layout::{Layout, LayoutKey};
 use super::record::{length_of, Record};
+use super::selector_length::{Header, SelectorLength};
 use crate::sae::{Key, Prn, Slot};
 
 #[derive(Clone, Debug, Default, PartialEq)]
@@ -9,6 +10,7 @@ pub struct Records {
     pub slots: Vec<Slot>,
     pub prns: Vec<Prn>,
     pub layouts: Vec<Layout>,
+    pub selector_lengths: Vec<SelectorLength>,
 }
 
 impl Records {
@@ -21,6 +23,7 @@ impl Records {
                 Record::Slot(slot) => records.slots.push(slot),
                 Record::Prn(prn) => records.prns.push(prn),
                 Record::Layout(layout) => records.layouts.push(layout),
+                Record::SelectorLength(record) => records.selector_lengths.push(record),
             }
             rest = after;
         }
@@ -35,10 +38,21 @@ impl Records {
         self.prns.iter().find(|row| row.prn == prn).copied()
     }
 
-    /// The layout with this first byte, target, presence and selector.
-    pub fn layout(&self, key: [u8; 4]) -> Option<Layout> {
+    pub fn layout(&self, key: LayoutKey) -> Option<Layout> {
         let found = self.layouts.iter().find(|layout| layout.key() == key);
         found.copied()
+    }
+
+    /// Any layout for this header, whatever its selector.
+    pub fn has_layout_for(&self, header: Header) -> bool {
+        self.layouts.iter().any(|layout| layout.header() == header)
+    }
+
+    /// What the header's kind 4 record says, if there is one.
+    pub fn selector_length(&self, header: Header) -> Option<u8> {
+        let mut records = self.selector_lengths.iter();
+        let found = records.find(|record| record.header == header);
+        found.map(|record| record.length)
     }
 }
 
@@ -47,7 +61,8 @@ mod tests {
     use super::*;
     use crate::random::Random;
     use crate::supplement::draft::{
-        layout_record, prn_record, random_layout, random_prn, random_slot, slot_record,
+        layout_record, prn_record, random_layout, random_prn, random_selector_length, random_slot,
+        selector_length_record, slot_record,
     };
 
     #[test]
@@ -57,14 +72,25 @@ mod tests {
             let slot = random_slot(&mut random);
             let prn = random_prn(&mut random);
             let layout = random_layout(&mut random);
-            let supplement = [layout_record(&layout), slot_record(&slot), prn_record(&prn)];
+            let length = random_selector_length(&mut random);
+            let supplement = [
+                layout_record(&layout),
+                slot_record(&slot),
+                selector_length_record(&length),
+                prn_record(&prn),
+            ];
             let records = Records::of(&supplement.concat());
             assert_eq!(records.slots, [slot]);
             assert_eq!(records.prns, [prn]);
             assert_eq!(records.layouts, [layout]);
+            assert_eq!(records.selector_lengths, [length]);
             assert_eq!(records.slot(slot.key()), Some(slot));
             assert_eq!(records.prn(prn.prn), Some(prn));
             assert_eq!(records.layout(layout.key()), Some(layout));
+            assert!(records.has_layout_for(layout.header()));
+            assert_eq!(records.selector_length(length.header), Some(length.length));
+            let [first_byte, target] = length.header;
+            assert_eq!(records.selector_length([first_byte, target ^ 1]), None);
             assert_eq!(records.prn(prn.prn ^ 1), None);
             let other = (slot.form, slot.width ^ 1, slot.number);
             assert_eq!(records.slot(other), None);

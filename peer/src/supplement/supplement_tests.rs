@@ -1,6 +1,9 @@
-use super::draft::{layout_record, prn_record, slot_record};
+use super::draft::{
+    layout_record, old_layout_record, prn_record, selector_length_record, slot_record,
+};
 use super::layout::Layout;
 use super::record::{length_of, KINDS, SLOT};
+use super::selector_length::{Header, SelectorLength};
 use super::*;
 use crate::sae::form::*;
 use crate::sae::{Prn, Slot, PRNS, SLOTS};
@@ -11,14 +14,20 @@ const OWN_PRN: Prn = Prn::new(0x1234, UNM, 8, 1000);
 
 /// The layout of the whole report among the bench cases.
 fn bench_layout() -> Layout {
-    Layout::of_key([0x08, 0x6B, 1, 0x41]).with_prns(&[0x1025, 0x100B])
+    Layout::of_key([0x08, 0x6B, 1, 0x41, 0]).with_prns(&[0x1025, 0x100B])
 }
 
-fn three_records() -> Vec<u8> {
+fn length_record(header: Header, length: u8) -> Vec<u8> {
+    selector_length_record(&SelectorLength { header, length })
+}
+
+/// One of each kind, in the order of `KINDS`.
+fn four_records() -> Vec<u8> {
     [
         slot_record(&OWN_SLOT),
         prn_record(&OWN_PRN),
         layout_record(&bench_layout()),
+        length_record([0x08, 0x6A], 2),
     ]
     .concat()
 }
@@ -26,13 +35,15 @@ fn three_records() -> Vec<u8> {
 #[test]
 fn accepted() {
     assert_eq!(answer(&[]), 0);
-    assert_eq!(answer(&three_records()), 0);
+    assert_eq!(answer(&four_records()), 0);
     let bench = layout_record(&bench_layout());
     assert_eq!(
-        bench[..10],
-        [3, 8, 0x6B, 1, 0x41, 2, 0x10, 0x25, 0x10, 0x0B]
+        bench[..11],
+        [3, 8, 0x6B, 1, 0x41, 0, 2, 0x10, 0x25, 0x10, 0x0B]
     );
+    assert_eq!(bench.len(), 39);
     assert_eq!(answer(&bench), 0);
+    assert_eq!(length_record([0x08, 0x6A], 2), [4, 0x08, 0x6A, 2]);
 }
 
 #[test]
@@ -44,17 +55,17 @@ fn sizes() {
 
 #[test]
 fn unknown_kinds() {
-    for byte in [0, 4, 5, 0x80, 0xFF] {
-        let first = [&[byte], &three_records()[..]].concat();
+    for byte in [0, 5, 6, 0x80, 0xFF] {
+        let first = [&[byte], &four_records()[..]].concat();
         assert_eq!(answer(&first), 11);
-        let last = [&three_records()[..], &[byte]].concat();
-        assert_eq!(answer(&last), refused_answer(11, three_records().len()));
+        let last = [&four_records()[..], &[byte]].concat();
+        assert_eq!(answer(&last), refused_answer(11, four_records().len()));
     }
 }
 
 #[test]
 fn cuts() {
-    let whole = three_records();
+    let whole = four_records();
     let mut place = 0;
     for length in KINDS.map(length_of) {
         assert_eq!(answer(&whole[..place]), 0);
@@ -124,17 +135,44 @@ fn ranges_of_a_prn() {
 }
 
 #[test]
-fn ranges_of_a_layouts_key() {
+fn ranges_of_headers() {
+    for (header, expected) in [
+        ([0x08, 0x6B], 0),
+        ([0x28, 0x6B], 13),
+        ([0x88, 0x6B], 13),
+        ([0xF8, 0x00], 0),
+        ([0x18, 0x01], 13),
+        ([0x00, 0x00], 0),
+    ] {
+        let layout = Layout::of_key([header[0], header[1], 2, 0x41, 0x0C]);
+        assert_eq!(answer(&layout_record(&layout)), expected, "{header:X?}");
+        assert_eq!(answer(&length_record(header, 2)), expected, "{header:X?}");
+    }
+}
+
+#[test]
+fn ranges_of_a_selector_length() {
+    for length in 0..=255 {
+        let expected = if length <= 2 { 0 } else { 13 };
+        assert_eq!(answer(&length_record([0x08, 0x6B], length)), expected);
+        assert_eq!(answer(&length_record([0x18, 0], length)), expected);
+    }
+}
+
+#[test]
+fn ranges_of_a_layouts_selector() {
     for (key, expected) in [
-        ([0x08, 0x6B, 1, 0x41], 0),
-        ([0x28, 0x6B, 1, 0x41], 13),
-        ([0x88, 0x6B, 1, 0x41], 13),
-        ([0xF8, 0x00, 1, 0x41], 0),
-        ([0x18, 0x01, 1, 0x41], 13),
-        ([0x08, 0x6B, 0, 0], 0),
-        ([0x08, 0x6B, 0, 1], 13),
-        ([0x08, 0x6B, 1, 0], 0),
-        ([0x08, 0x6B, 2, 0], 13),
+        ([0x08, 0x6B, 0, 0, 0], 0),
+        ([0x08, 0x6B, 0, 1, 0], 13),
+        ([0x08, 0x6B, 0, 0, 1], 13),
+        ([0x08, 0x6B, 1, 0x41, 0], 0),
+        ([0x08, 0x6B, 1, 0, 0], 0),
+        ([0x08, 0x6B, 1, 0x41, 1], 13),
+        ([0x08, 0x6B, 2, 0x41, 0x0C], 0),
+        ([0x08, 0x6B, 2, 0, 0xFF], 0),
+        ([0x08, 0x6B, 2, 0, 0], 0),
+        ([0x08, 0x6B, 3, 0, 0], 13),
+        ([0x08, 0x6B, 0xFF, 0x41, 0x0C], 13),
     ] {
         let layout = Layout::of_key(key);
         assert_eq!(answer(&layout_record(&layout)), expected, "{key:X?}");
@@ -166,10 +204,26 @@ fn keys_seen_before() {
         slot_record(&slot),
         prn_record(&Prn::new(OWN_PRN.prn, BCD, 4, 1)),
         layout_record(&bench_layout().with_prns(&[])),
+        length_record([0x08, 0x6A], 0),
     ] {
-        let again = [three_records(), record].concat();
-        assert_eq!(answer(&again), refused_answer(14, three_records().len()));
+        let again = [four_records(), record].concat();
+        assert_eq!(answer(&again), refused_answer(14, four_records().len()));
     }
+    let other_selector = Layout::of_key([0x08, 0x6B, 2, 0x41, 0]);
+    let others = [
+        layout_record(&other_selector),
+        length_record([0x08, 0x6B], 2),
+    ];
+    assert_eq!(answer(&[four_records(), others.concat()].concat()), 0);
+}
+
+/// Cut by the end, or its count in the place of a selector byte that is unused.
+#[test]
+fn a_layout_of_the_old_form() {
+    let old = old_layout_record(&bench_layout());
+    assert_eq!(old[..8], [3, 8, 0x6B, 1, 0x41, 2, 0x10, 0x25]);
+    assert_eq!((old.len(), answer(&old)), (38, 12));
+    assert_eq!(answer(&[old, prn_record(&OWN_PRN)].concat()), 13);
 }
 
 #[test]
@@ -181,7 +235,8 @@ fn one_key_under_several_kinds() {
     let records = [
         slot_record(&slot),
         prn_record(&Prn::new(0x0108, UNM, 8, 1)),
-        layout_record(&Layout::of_key([1, 8, 1, 5])),
+        layout_record(&Layout::of_key([1, 8, 1, 5, 0])),
+        length_record([1, 8], 1),
     ];
     assert_eq!(answer(&records.concat()), 0);
 }
@@ -211,7 +266,11 @@ fn keys_in_the_sae_tables() {
         ..OWN_SLOT
     };
     assert_eq!(answer(&slot_record(&packet)), 0);
-    assert_eq!(answer(&layout_record(&Layout::of_key([0, 0x0B, 0, 0]))), 0);
+    assert_eq!(
+        answer(&layout_record(&Layout::of_key([0, 0x0B, 0, 0, 0]))),
+        0
+    );
+    assert_eq!(answer(&length_record([0, 0x0B], 0)), 0);
 }
 
 #[test]

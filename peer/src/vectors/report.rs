@@ -2,7 +2,7 @@
 
 use super::report_frames::MOST_LENT;
 use super::{report_bench, report_frames, report_iso, report_items, report_places};
-use super::{report_states, report_tables, Files, Format};
+use super::{report_selectors, report_states, report_tables, Files, Format};
 use crate::case::{Call, Case};
 use crate::frame::bus::Bus;
 use crate::random::Random;
@@ -22,10 +22,10 @@ const FORMAT: Format = Format {
 };
 
 /// The files, a line of counts, and the classes of answer without a case. The
-/// bench cases, the easy errors and the extremes of Numbers come first, each
-/// with its name and its answer, written by hand and not computed by the rules;
-/// then come the cases that the rules answer: those of J1850, such of them as
-/// ISO 9141-2 has too, and its own.
+/// bench cases, the easy errors, the extremes of Numbers and the selectors come
+/// first, each with its name and its answer, written by hand and not computed by
+/// the rules; then come the cases that the rules answer: those of J1850, such of
+/// them as ISO 9141-2 has too, and its own.
 pub fn make() -> (Files, String, Vec<String>) {
     let mut files = Files::default();
     for bench in report_bench::all() {
@@ -42,6 +42,7 @@ pub fn make() -> (Files, String, Vec<String>) {
         report_items::cases,
         report_places::cases,
         report_frames::cases,
+        report_selectors::cases,
     ] {
         let cases = cases(&mut random);
         files.add_all(&FORMAT, &cases);

@@ -1,7 +1,7 @@
 //! The bench cases and the easy errors, with the answers that the papers print:
 //! written by hand, not computed by the rules.
 
-use super::{report_extremes, report_iso_bench};
+use super::{report_extremes, report_iso_bench, report_selector_bench};
 use crate::case::Case;
 use crate::frame::check_byte::{check_byte, checked};
 use crate::report::scene::own_rows;
@@ -50,13 +50,14 @@ pub fn all() -> Vec<Bench> {
         easy_errors(),
         report_iso_bench::all(),
         report_extremes::all(),
+        report_selector_bench::all(),
     ];
     groups.into_iter().flatten().collect()
 }
 
 /// The layout of the whole report's frames with other PRNs.
 pub fn layout(prns: &[u16]) -> Bytes {
-    layout_record(&Layout::of_key([0x08, 0x6B, 1, 0x41]).with_prns(prns))
+    layout_record(&Layout::of_key([0x08, 0x6B, 1, 0x41, 0]).with_prns(prns))
 }
 
 /// A frame of the whole report's header and selector with these items.
@@ -108,14 +109,14 @@ fn full_frames() -> Vec<Bench> {
     let items = [0x65, 0x80, 1, 2, 3, 4, 5];
     let full = case(layout(&[0x1025, 0x100B]), &items);
     let rows = [&FIRST_ITEM[..], &SECOND_ITEM, &[9, 40, 10, 0, 11, 2]];
-    let key = [0x18, 0, 1, 0x41];
+    let key = [0x18, 0, 1, 0x41, 0];
     let nine = layout_record(&Layout::of_key(key).with_prns(&[0x1025; 9]));
     let ten_data = checked(&[0x18, 0x41, 1, 2, 3, 4, 5, 6, 7, 8, 9]);
     let one_byte_form = Case::report(nine, (ten_data, Vec::new()));
     let over_1 = |above: i32| number(above.into(), 1, above.into());
     let mut counted: Vec<u8> = (1..=9).flat_map(over_1).collect();
     counted.extend(CLEAR);
-    let bare = layout_record(&Layout::of_key([0x00, 0x6B, 0, 0]));
+    let bare = layout_record(&Layout::of_key([0x00, 0x6B, 0, 0, 0]));
     let answered = (checked(&[0x00, 0x6B, 0x10]), vec![7; 8]);
     vec![
         accepted("twelve bytes", full, &rows),
@@ -216,7 +217,7 @@ fn easy_errors() -> Vec<Bench> {
 /// The check byte over the response's data alone, and over all before it.
 fn kind_3_responses() -> Vec<Bench> {
     let first = checked(&[0x13, 0x41]);
-    let layout = layout_record(&Layout::of_key([0x13, 0, 1, 0x41]));
+    let layout = layout_record(&Layout::of_key([0x13, 0, 1, 0x41, 0]));
     let over_data = checked(&[0xAB, 0xCD]);
     let whole = [&first[..], &[0xAB, 0xCD]].concat();
     let over_frame = vec![0xAB, 0xCD, check_byte(&whole)];

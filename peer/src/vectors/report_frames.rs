@@ -111,7 +111,7 @@ fn runs(bus: Bus, number: u8, random: &mut Random) -> Runs {
 /// A record that is refused so after the layout of the whole report.
 fn faulty_record(number: u8) -> Bytes {
     match number {
-        refusal::UNKNOWN_KIND => vec![4],
+        refusal::UNKNOWN_KIND => vec![9],
         refusal::CUT => vec![2, 0x20, 0x00],
         refusal::RANGE => prn_record(&Prn::new(0x2000, 0, 8, 101)),
         refusal::SEEN_BEFORE => bench_layout(),
@@ -120,7 +120,7 @@ fn faulty_record(number: u8) -> Bytes {
 }
 
 fn bench_layout() -> Bytes {
-    let layout = Layout::of_key([0x08, 0x6B, 1, 0x41]);
+    let layout = Layout::of_key([0x08, 0x6B, 1, 0x41, 0]);
     layout_record(&layout.with_prns(&[0x1025, 0x100B]))
 }
 

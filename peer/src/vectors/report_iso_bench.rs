@@ -33,7 +33,7 @@ fn case(run: &[u8]) -> Case {
 
 /// Header 68h 6Ah F1h finds the key 08h, 6Ah on both buses.
 fn shared_layout() -> Vec<Bench> {
-    let key = [0x08, 0x6A, 1, 0x01];
+    let key = [0x08, 0x6A, 1, 0x01, 0];
     let supplement = layout_record(&Layout::of_key(key).with_prns(&[0x1025]));
     let frame = checked(&[0x68, 0x6A, 0xF1, 0x01, 0x0C]);
     let message = [0x68, 0x6A, 0xF1, 0x01, 0x0C, 0xD0];
@@ -70,7 +70,7 @@ const THIRTEEN: [u8; 13] = [0x48, 0x6B, 0x10, 0x41, 0x65, 0x80, 1, 2, 3, 4, 5, 6
 
 /// Four bytes and twelve.
 fn shortest_and_longest() -> Vec<Bench> {
-    let bare = layout_record(&Layout::of_key([0x08, 0x6B, 0, 0]));
+    let bare = layout_record(&Layout::of_key([0x08, 0x6B, 0, 0, 0]));
     let four = on(Bus::Iso9141, bare, &[0x48, 0x6B, 0x10, 0xC3]);
     let rows = [&FIRST_ITEM[..], &SECOND_ITEM, &[9, 40, 10, 0, 11, 2]];
     vec![
@@ -115,7 +115,7 @@ fn supplement_first() -> Vec<Bench> {
     ];
     let faulty = |run: &[u8]| {
         let mut case = case(run);
-        case.inputs[0].push(4);
+        case.inputs[0].push(9);
         case
     };
     let benches = messages.map(|(name, run)| refused(name, faulty(run), number));

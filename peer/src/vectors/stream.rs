@@ -31,7 +31,7 @@ pub fn make() -> (Files, String, Vec<String>) {
         for step in cases(&mut random) {
             if files.add(&FORMAT, &step, step.answer()) {
                 let end = step.beside(Call::StreamEnd);
-                files.counts.count_answer(end.call, &end.answer());
+                files.counts.count_answer(&end, &end.answer());
             }
         }
     }

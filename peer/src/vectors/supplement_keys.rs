@@ -6,10 +6,11 @@ use crate::sae::{has_prn, has_slot, Prn, Slot, PRNS, SLOTS};
 use crate::supplement::answer;
 use crate::supplement::draft::{
     distinct, layout_record, prn_record, random_kind, random_prn, random_record, random_slot,
-    slot_record, Bytes,
+    selector_length_record, slot_record, Bytes,
 };
 use crate::supplement::layout::Layout;
 use crate::supplement::record::{key_of, length_of, KINDS};
+use crate::supplement::selector_length::SelectorLength;
 
 pub fn cases(random: &mut Random) -> Vec<Bytes> {
     let groups = [
@@ -20,6 +21,8 @@ pub fn cases(random: &mut Random) -> Vec<Bytes> {
         beside_sae_rows(random),
         untranscribed(random),
         sae_bytes_in_layouts(),
+        sae_bytes_in_headers(),
+        one_header(random),
     ];
     groups.into_iter().flatten().collect()
 }
@@ -78,7 +81,7 @@ pub fn with_key_of(record: &[u8], random: &mut Random) -> Bytes {
     }
 }
 
-/// A SLOT, a PRN and a layout whose keys have the same bytes, in each order.
+/// A record of each kind whose keys start with the same bytes, in several orders.
 fn one_key_under_each_kind(random: &mut Random) -> Vec<Bytes> {
     let mut list = Vec::new();
     for key in [[1, 8, 1, 5], [9, 64, 0, 0], [3, 33, 1, 0xFF]] {
@@ -88,17 +91,50 @@ fn one_key_under_each_kind(random: &mut Random) -> Vec<Bytes> {
         (slot.lowest, slot.highest) = (0, 0);
         let mut prn = random_prn(random);
         prn.prn = u16::from_be_bytes([key[0], key[1]]);
+        let [first_byte, target, selector_length, selector] = key;
+        let key = [first_byte, target, selector_length, selector, 0];
         let layout = Layout::of_key(key).with_prns(&[prn.prn]);
-        let records = [slot_record(&slot), prn_record(&prn), layout_record(&layout)];
-        for order in [
-            [0, 1, 2],
-            [0, 2, 1],
-            [1, 0, 2],
-            [1, 2, 0],
-            [2, 0, 1],
-            [2, 1, 0],
-        ] {
-            list.push(order.map(|place| &records[place][..]).concat());
+        let header = [first_byte, target];
+        let mut records = [
+            slot_record(&slot),
+            prn_record(&prn),
+            layout_record(&layout),
+            selector_length_record(&SelectorLength { header, length: 1 }),
+        ];
+        for _ in 0..records.len() {
+            records.rotate_left(1);
+            list.push(records.concat());
+            let backward: Vec<Bytes> = records.iter().rev().cloned().collect();
+            list.push(backward.concat());
+        }
+    }
+    list
+}
+
+/// Layouts for one header with each length of their selector, its bytes zero as far
+/// as they can be, and the header's kind 4 record, before, among and behind them.
+fn one_header(random: &mut Random) -> Vec<Bytes> {
+    let mut list = Vec::new();
+    for [first_byte, target] in [[0x08, 0x6B], [0x18, 0]] {
+        let layouts: Vec<Bytes> = [[0, 0, 0], [1, 0, 0], [2, 0, 0], [1, 0x41, 0], [2, 0x41, 0]]
+            .map(|[length, first, second]| [first_byte, target, length, first, second])
+            .iter()
+            .map(|key| layout_record(&Layout::of_key(*key).with_prns(&[random.number() as u16])))
+            .collect();
+        list.push(layouts.concat());
+        for length in 0..=2 {
+            let header = [first_byte, target];
+            let record = selector_length_record(&SelectorLength { header, length });
+            for place in [0, 2, layouts.len()] {
+                let mut records = layouts.clone();
+                records.insert(place, record.clone());
+                list.push(records.concat());
+                records.push(selector_length_record(&SelectorLength {
+                    header,
+                    length: 1,
+                }));
+                list.push(records.concat());
+            }
         }
     }
     list
@@ -181,13 +217,23 @@ fn untranscribed(random: &mut Random) -> Vec<Bytes> {
 /// Layouts whose keys start as a PRN's or a SLOT's in the SAE tables.
 fn sae_bytes_in_layouts() -> Vec<Bytes> {
     let keys = [
-        [0, 0, 0, 0],
-        [0, 0x0B, 0, 0],
-        [1, 8, 0, 0],
-        [1, 56, 0, 0],
-        [0x10, 0, 1, 0x25],
+        [0, 0, 0, 0, 0],
+        [0, 0x0B, 0, 0, 0],
+        [1, 8, 0, 0, 0],
+        [1, 56, 0, 0, 0],
+        [1, 8, 0, 101, 0],
+        [0x10, 0, 1, 0x25, 0],
     ];
     keys.iter()
         .map(|key| layout_record(&Layout::of_key(*key)))
         .collect()
+}
+
+/// Kind 4 records whose keys are PRNs of the SAE tables, with H = 0 and H = 1.
+fn sae_bytes_in_headers() -> Vec<Bytes> {
+    let headers = PRNS.iter().map(|row| row.prn.to_be_bytes());
+    let records = headers
+        .filter(|[first_byte, _]| first_byte >> 5 == 0)
+        .map(|header| selector_length_record(&SelectorLength { header, length: 2 }));
+    records.collect()
 }

@@ -4,9 +4,11 @@ use super::supplement_keys::with_key_of;
 use crate::random::Random;
 use crate::sae::{PRNS, SLOTS};
 use crate::supplement::draft::{
-    distinct, kinds_of_length, prn_record, random_kind, random_record, slot_record, Bytes, Layouts,
+    distinct, kinds_of_length, old_layout_record, prn_record, random_kind, random_layout,
+    random_record, slot_record, Bytes, Layouts, COUNT_PLACE,
 };
-use crate::supplement::record::{length, length_of, KINDS, LAYOUT, PRN, SLOT};
+use crate::supplement::layout::Layout;
+use crate::supplement::record::{length, length_of, KINDS, LAYOUT, PRN, SELECTOR_LENGTH, SLOT};
 use crate::supplement::{refusal, MOST_BYTES};
 
 pub fn cases(random: &mut Random) -> Vec<Bytes> {
@@ -18,6 +20,7 @@ pub fn cases(random: &mut Random) -> Vec<Bytes> {
         two_faults_in_one(random),
         two_faulty_records(random),
         high_places(random),
+        old_form(random),
         sizes(random),
         sound(random),
     ];
@@ -32,7 +35,7 @@ const OF_WHOLE: [u8; 3] = [refusal::RANGE, refusal::SEEN_BEFORE, refusal::IN_SAE
 fn faulty(number: u8, kind: u8, earlier: &[Bytes], random: &mut Random) -> Option<Bytes> {
     let mut record = random_record(kind, random);
     match number {
-        refusal::UNKNOWN_KIND => record[0] = random.pick(&[0, 4, 5, 0x81, 0xFF]),
+        refusal::UNKNOWN_KIND => record[0] = random.pick(&[0, 5, 6, 0x81, 0xFF]),
         refusal::CUT => record.truncate(random.between(1, record.len() - 1)),
         refusal::RANGE => break_range(&mut record, random),
         refusal::SEEN_BEFORE => {
@@ -49,7 +52,8 @@ pub fn break_range(record: &mut [u8], random: &mut Random) {
     match record[0] {
         SLOT => record[7..9].fill(0),
         PRN => record[3] = random.pick(&[0, 10, 255]),
-        _ => record[5] = random.pick(&[17, 18, 255]),
+        LAYOUT => record[COUNT_PLACE] = random.pick(&[17, 18, 255]),
+        _ => record[3] = random.pick(&[3, 4, 255]),
     }
 }
 
@@ -82,7 +86,7 @@ fn cuts(random: &mut Random) -> Vec<Bytes> {
     let mut list = Vec::new();
     for kind in KINDS {
         for length in 1..length_of(kind) {
-            for before in [&[][..], &[SLOT], &[PRN], &[LAYOUT, PRN]] {
+            for before in [&[][..], &[SLOT], &[PRN], &[LAYOUT, SELECTOR_LENGTH]] {
                 let kinds = [before, &[kind]].concat();
                 let mut records = distinct(&kinds, random);
                 records[before.len()].truncate(length);
@@ -110,10 +114,10 @@ fn faults_among_others(random: &mut Random) -> Vec<Bytes> {
     list
 }
 
-/// Acceptable records, with each kind among the first three.
+/// Acceptable records, with each kind among the first four.
 fn others(count: usize, random: &mut Random) -> Vec<Bytes> {
-    let mut kinds = vec![LAYOUT, PRN, SLOT];
-    kinds.rotate_left(random.below(3));
+    let mut kinds = KINDS.to_vec();
+    kinds.rotate_left(random.below(KINDS.len()));
     kinds.extend((0..count).map(|_| random_kind(random)));
     distinct(&kinds[..count], random)
 }
@@ -132,7 +136,8 @@ fn two_faults_in_one(random: &mut Random) -> Vec<Bytes> {
             let mut broken = record.clone();
             break_range(&mut broken, random);
             list.push([&before[..], &broken].concat());
-            for length in [record.len() - 1, record.len() / 2 + 3] {
+            let last = record.len() - 1;
+            for length in [last, last.min(record.len() / 2 + 3)] {
                 list.push([&before[..], &record[..length]].concat());
                 list.push([&before[..], &broken[..length]].concat());
             }
@@ -169,11 +174,30 @@ fn high_places(random: &mut Random) -> Vec<Bytes> {
         for number in refusal::UNKNOWN_KIND..=refusal::IN_SAE {
             let kinds = kinds_of_length(length, Layouts::Few, random);
             let earlier = distinct(&kinds, random);
-            let kind = random.pick(&[SLOT, PRN]);
+            let kind = match number {
+                refusal::IN_SAE => random.pick(&[SLOT, PRN]),
+                _ => random.pick(&[SLOT, PRN, SELECTOR_LENGTH]),
+            };
             if let Some(record) = faulty(number, kind, &earlier, random) {
                 list.push([earlier.concat(), record].concat());
             }
         }
+    }
+    list
+}
+
+/// Layouts of one selector byte, as makers had them before, alone and beside
+/// records of today.
+fn old_form(random: &mut Random) -> Vec<Bytes> {
+    let bench = Layout::of_key([0x08, 0x6B, 1, 0x41, 0]).with_prns(&[0x1025, 0x100B]);
+    let bare = Layout::of_key([0x08, 0x6B, 0, 0, 0]);
+    let old = [bench, bare, random_layout(random)].map(|layout| old_layout_record(&layout));
+    let mut list = vec![old.concat()];
+    for old in old {
+        let other = random_record(random_kind(random), random);
+        list.push([&old[..], &other].concat());
+        list.push([&other[..], &old].concat());
+        list.push(old);
     }
     list
 }
@@ -192,6 +216,8 @@ fn sizes(random: &mut Random) -> Vec<Bytes> {
     for number in OF_WHOLE {
         list.push(full_with_last(number, random));
     }
+    let most_records = vec![SELECTOR_LENGTH; MOST_BYTES / length_of(SELECTOR_LENGTH)];
+    list.push(distinct(&most_records, random).concat());
     let mut short = records_of_length(MOST_BYTES - 1, Layouts::Few, random).concat();
     list.push([&short[..], &[0]].concat());
     list.push([&short[..], &[PRN]].concat());

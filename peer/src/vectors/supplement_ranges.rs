@@ -2,17 +2,20 @@
 
 use crate::random::Random;
 use crate::supplement::draft::{
-    layout_record, prn_record, random_layout, random_prn, random_slot, slot_record, Bytes,
+    layout_record, prn_record, random_header, random_layout, random_prn, random_selector_length,
+    random_slot, selector_length_record, slot_record, Bytes,
 };
 use crate::supplement::layout::Layout;
+use crate::supplement::selector_length::{Header, SelectorLength};
 
 pub fn cases(random: &mut Random) -> Vec<Bytes> {
     let groups = [
         slot_fields(random),
         slot_limits(random),
         prn_fields(random),
-        first_bytes(random),
+        headers(random),
         selectors(random),
+        selector_lengths(random),
         counts(random),
         one_prn(),
     ];
@@ -101,30 +104,59 @@ fn prn_fields(random: &mut Random) -> Vec<Bytes> {
     list
 }
 
-/// Each first byte with the target zero and not zero.
-fn first_bytes(random: &mut Random) -> Vec<Bytes> {
+/// Each first byte with the target zero and not zero, in a layout and in a kind 4
+/// record.
+fn headers(random: &mut Random) -> Vec<Bytes> {
     let mut list = Vec::new();
     for first_byte in 0..=255 {
         for target in [0, random.between(1, 255) as u8] {
-            let mut layout = random_layout(random);
-            (layout.first_byte, layout.target) = (first_byte, target);
-            list.push(layout_record(&layout));
+            list.extend(of_header([first_byte, target], random));
         }
     }
     for target in [1, 0x80, 0xFF] {
-        list.push(layout_record(&Layout::of_key([0x1A, target, 0, 0])));
-        list.push(layout_record(&Layout::of_key([0x0A, target, 0, 0])));
+        list.extend(of_header([0x1A, target], random));
+        list.extend(of_header([0x0A, target], random));
     }
     list
 }
 
+fn of_header(header: Header, random: &mut Random) -> [Bytes; 2] {
+    let mut layout = random_layout(random);
+    [layout.first_byte, layout.target] = header;
+    let record = SelectorLength {
+        header,
+        ..random_selector_length(random)
+    };
+    [layout_record(&layout), selector_length_record(&record)]
+}
+
+const LENGTHS: [u8; 9] = [0, 1, 2, 3, 4, 0x41, 0x80, 0x82, 0xFF];
+
+/// Each length of a layout's selector with each byte zero and not.
 fn selectors(random: &mut Random) -> Vec<Bytes> {
     let mut list = Vec::new();
-    for present in [0, 1, 2, 3, 0x80, 0xFF] {
-        for selector in [0, 1, 0x41, 0x80, 0xFF] {
-            let mut layout = random_layout(random);
-            (layout.present, layout.selector) = (present, selector);
-            list.push(layout_record(&layout));
+    for length in LENGTHS {
+        for first in [0, 1, 0x41, 0x80, 0xFF] {
+            for second in [0, 1, 0x0C, 0x80, 0xFF] {
+                let mut layout = random_layout(random);
+                (layout.selector_length, layout.selector) = (length, [first, second]);
+                list.push(layout_record(&layout));
+            }
+        }
+    }
+    list
+}
+
+/// Each length in a kind 4 record.
+fn selector_lengths(random: &mut Random) -> Vec<Bytes> {
+    let mut list = Vec::new();
+    for length in 0..=255 {
+        let header = random_header(random);
+        list.push(selector_length_record(&SelectorLength { header, length }));
+    }
+    for length in LENGTHS {
+        for header in [[0x08, 0x6B], [0x18, 0]] {
+            list.push(selector_length_record(&SelectorLength { header, length }));
         }
     }
     list
@@ -151,7 +183,7 @@ fn one_prn() -> Vec<Bytes> {
     for count in 0..=16 {
         for place in 0..16 {
             for prn in [0x0001, 0x8000] {
-                let mut layout = Layout::of_key([0x08, 0x6B, 1, 0x41]);
+                let mut layout = Layout::of_key([0x08, 0x6B, 1, 0x41, 0]);
                 layout.count = count;
                 layout.prns[place] = prn;
                 list.push(layout_record(&layout));
