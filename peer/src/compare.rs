@@ -58,7 +58,7 @@ fn of_calls(
     outcome.run(count, |outcome| {
         let case = case(&mut random);
         let answer = case.answer();
-        outcome.counts.count_answer(case.call, &answer);
+        outcome.counts.count_answer(&case, &answer);
         outcome.compare(archive, &case, &answer, &mut random);
     })
 }
@@ -72,8 +72,8 @@ pub struct Outcome {
     cases: u64,
     /// Calls that are made only where memory suffices, in a layer that has such.
     long_runs: Option<u64>,
-    /// What came of all cuts into three parts, in the layer of the stream.
-    all_cuts: Option<String>,
+    /// What a layer tells in a line of its own.
+    apart: Option<String>,
     pub differences: Vec<String>,
 }
 
@@ -85,7 +85,7 @@ impl Outcome {
             counts: Counts::default(),
             cases: 0,
             long_runs: None,
-            all_cuts: None,
+            apart: None,
             differences: Vec::new(),
         }
     }
@@ -99,19 +99,16 @@ impl Outcome {
         self
     }
 
-    /// The count of each class in one line, and the cuts in another.
+    /// The count of each class in one line, and what is told apart in another.
     pub fn summary(&self) -> String {
         let (layer, cases, differ) = (self.layer, self.cases, self.differences.len());
         let mut counts = self.counts.summary(&self.classes);
         if let Some(calls) = self.long_runs {
             counts += &format!(", runs over 32 bits: {calls}");
         }
-        let all_cuts = self
-            .all_cuts
-            .iter()
-            .map(|cuts| format!("\n{layer}: {cuts}"));
+        let apart = self.apart.iter().map(|told| format!("\n{layer}: {told}"));
         let line = format!("{layer}: {cases} cases, {differ} differ ({counts})");
-        line + &all_cuts.collect::<String>()
+        line + &apart.collect::<String>()
     }
 
     /// The classes without a case.

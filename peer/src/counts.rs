@@ -1,10 +1,12 @@
 //! How many cases each class of answer has.
 
-use crate::case::Call;
+use crate::case::{Call, Case};
 use crate::frame::bus::Bus;
 use crate::report::line::unknown;
 use crate::report::number::Number;
-use crate::report::rows::{number, parse, unknown_number};
+use crate::report::rows::{number, parse, unknown_number, Rows};
+use crate::report::Sought;
+use crate::supplement::records::Records;
 use std::collections::BTreeMap;
 
 #[derive(Default)]
@@ -17,13 +19,13 @@ impl Counts {
         *self.counts.entry(class.to_string()).or_default() += 1;
     }
 
-    pub fn count_answer(&mut self, call: Call, (answer, written): &(u64, Vec<u8>)) {
-        for class in classes_of(call, *answer, written) {
+    pub fn count_answer(&mut self, case: &Case, (answer, written): &(u64, Vec<u8>)) {
+        for class in classes_of(case, *answer, written) {
             self.count(&class);
         }
     }
 
-    fn of(&self, class: &str) -> u64 {
+    pub fn of(&self, class: &str) -> u64 {
         self.counts.get(class).copied().unwrap_or(0)
     }
 
@@ -88,6 +90,20 @@ const ANY_FRAME: u64 = 1 << 8;
 
 const SIXTEEN_ITEMS: &str = "sixteen items";
 
+/// Selectors whose length a record says, selectors that the data cut short, and
+/// the selectors of layouts that were found.
+const SELECTORS: [&str; 9] = [
+    "recorded selector of 0",
+    "recorded selector of 1",
+    "recorded selector of 2",
+    "0 of 1 selector bytes",
+    "0 of 2 selector bytes",
+    "1 of 2 selector bytes",
+    "layout of selector length 0",
+    "layout of selector length 1",
+    "layout of selector length 2",
+];
+
 /// A class of Numbers, and whether one belongs to it.
 type Fraction = (&'static str, fn(&Number) -> bool);
 
@@ -122,6 +138,7 @@ pub fn classes(call: Call) -> Vec<String> {
         of_rows.extend(unknown.map(|number| format!("Unknown {number}")));
         of_rows.extend(FRACTIONS.map(|(class, _)| class.to_string()));
         of_rows.push(SIXTEEN_ITEMS.to_string());
+        of_rows.extend(SELECTORS.map(String::from));
         classes.extend(of_rows.iter().map(|class| on_bus(call.bus(), class)));
     }
     classes
@@ -129,23 +146,50 @@ pub fn classes(call: Call) -> Vec<String> {
 
 /// Those of them that one answer belongs to; a row that stands twice counts
 /// twice.
-fn classes_of(call: Call, answer: u64, written: &[u8]) -> Vec<String> {
+fn classes_of(case: &Case, answer: u64, written: &[u8]) -> Vec<String> {
+    let call = case.call;
     let mut classes = vec![class(call, answer)];
     let report = parse(written).filter(|_| call.is(Call::Report));
-    let Some(rows) = report else {
-        return classes;
-    };
-    let mut of_rows = vec![format!("verdict {}", rows.verdict)];
+    if let Some(rows) = report {
+        let mut of_report = classes_of_rows(&rows);
+        of_report.extend(selectors_of(case));
+        classes.extend(of_report.iter().map(|class| on_bus(call.bus(), class)));
+    }
+    classes
+}
+
+fn classes_of_rows(rows: &Rows) -> Vec<String> {
+    let mut classes = vec![format!("verdict {}", rows.verdict)];
     if rows.items.len() == 16 {
-        of_rows.push(SIXTEEN_ITEMS.to_string());
+        classes.push(SIXTEEN_ITEMS.to_string());
     }
     for line in rows.lines() {
-        of_rows.push(format!("row {}", line[0]));
+        classes.push(format!("row {}", line[0]));
         let unknown = unknown_number(line);
-        of_rows.extend(unknown.map(|number| format!("Unknown {number}")));
-        of_rows.extend(number(line).iter().flat_map(fractions_of));
+        classes.extend(unknown.map(|number| format!("Unknown {number}")));
+        classes.extend(number(line).iter().flat_map(fractions_of));
     }
-    classes.extend(of_rows.iter().map(|class| on_bus(call.bus(), class)));
+    classes
+}
+
+/// Of an accepted report.
+fn selectors_of(case: &Case) -> Vec<String> {
+    let (first, response) = (&case.inputs[1], case.inputs.get(2));
+    let response = response.map(Vec::as_slice).unwrap_or_default();
+    let read = case.call.bus().read(first, response);
+    let parts = read.expect("an accepted frame or message");
+    let records = Records::of(&case.inputs[0]);
+    let sought = Sought::of(&records, &parts);
+    let (there, length) = (sought.selector.len(), sought.length);
+    let mut classes = Vec::new();
+    if there < length {
+        classes.push(format!("{there} of {length} selector bytes"));
+    } else if records.selector_length(sought.header).is_some() {
+        classes.push(format!("recorded selector of {length}"));
+    }
+    if records.layout(sought.layout_key()).is_some() {
+        classes.push(format!("layout of selector length {there}"));
+    }
     classes
 }
 

@@ -1,8 +1,10 @@
 //! `compare frame|iso|supplement|report COUNT SEED` compares the archive with
 //! the rules: `frame` reads and writes on J1850, `iso` on ISO 9141-2, a report is
 //! of either. `compare promise COUNT SEED` tries what reports keep when records
-//! are added to a supplement or taken away. `compare stream COUNT SEED` feeds
-//! streams part after part and compares what is told with the whole.
+//! are added to a supplement or taken away: COUNT pairs of supplements under the
+//! premise, beside which those that break it are counted apart. `compare stream
+//! COUNT SEED` feeds streams part after part and compares what is told with the
+//! whole.
 
 use peer::case::Call;
 use peer::compare::{frame, promise, reports, stream, supplements, Outcome, Run};

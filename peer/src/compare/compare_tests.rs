@@ -6,6 +6,8 @@ use crate::frame::{check_byte, MOST_BYTES};
 use crate::report::line::{self, Line, LONGEST};
 use crate::report::number::Number;
 use crate::report::rows::{number, parse};
+use crate::supplement::draft::{Bytes, SECOND_SELECTOR_PLACE};
+use crate::supplement::record::{length_of, LAYOUT, SELECTOR_LENGTH};
 use std::slice;
 
 pub(super) type Answer = (u64, Vec<u8>);
@@ -150,6 +152,87 @@ fn bent_reports_of_iso() {
         _ => answer,
     };
     assert!(is_found(promise::run, by_size));
+}
+
+/// The supplement with its records changed, or without them.
+fn with_records(supplement: &[u8], change: fn(Bytes) -> Option<Bytes>) -> Bytes {
+    let mut changed = Vec::new();
+    let mut rest = supplement;
+    while let Some(kind) = rest.first() {
+        let (record, after) = rest.split_at(length_of(*kind));
+        changed.extend(change(record.to_vec()).unwrap_or_default());
+        rest = after;
+    }
+    changed
+}
+
+/// The accepted report of the frame under another supplement, if that is accepted.
+fn under(
+    change: fn(Bytes) -> Option<Bytes>,
+    call: Call,
+    inputs: &[&[u8]],
+    answer: Answer,
+) -> Answer {
+    if !call.is(Call::Report) || answer.1.is_empty() {
+        return answer;
+    }
+    let changed = with_records(inputs[0], change);
+    let mut inputs = inputs.to_vec();
+    inputs[0] = &changed;
+    match call.answer(&inputs, LONGEST) {
+        (number, _) if number & 0xFF != 0 => answer,
+        bent => bent,
+    }
+}
+
+const WITHOUT_LENGTHS: fn(Bytes) -> Option<Bytes> =
+    |record| (record[0] != SELECTOR_LENGTH).then_some(record);
+
+#[test]
+fn bent_selector_lengths() {
+    let bends: [Bend; 3] = [
+        |call, inputs, answer| under(WITHOUT_LENGTHS, call, inputs, answer),
+        // length 0 is taken for 1
+        |call, inputs, answer| {
+            let at_least_1 = |mut record: Bytes| {
+                if record[0] == SELECTOR_LENGTH {
+                    record[3] = record[3].max(1);
+                }
+                Some(record)
+            };
+            under(at_least_1, call, inputs, answer)
+        },
+        // a layout of two bytes is found by its first alone
+        |call, inputs, answer| {
+            let first_alone = |mut record: Bytes| {
+                if record[0] == LAYOUT && record[3] == 2 {
+                    (record[3], record[SECOND_SELECTOR_PLACE]) = (1, 0);
+                }
+                Some(record)
+            };
+            under(first_alone, call, inputs, answer)
+        },
+    ];
+    assert_each_found(reports, &bends);
+}
+
+/// Lengths that are heeded in supplements of odd length alone.
+#[test]
+fn selector_lengths_that_records_change() {
+    let bend: Bend = |call, inputs, answer| match inputs[0].len() % 2 {
+        0 => under(WITHOUT_LENGTHS, call, inputs, answer),
+        _ => answer,
+    };
+    assert!(is_found(promise::run, bend));
+}
+
+#[test]
+fn pairs_that_break_the_premise_are_not_judged() {
+    let outcome = outcome(promise::run, right);
+    let broken = outcome.counts.of("premise broken");
+    let changed = outcome.counts.of("premise broken, a shown line changed");
+    assert!(broken > changed && changed > 0, "{broken} {changed}");
+    assert_eq!((outcome.cases, outcome.differences.len()), (4000, 0));
 }
 
 /// The report with its first Number bent.

@@ -31,7 +31,7 @@ fn run_on(bus: Bus, layer: &'static str, archive: Archive, count: u64, seed: u64
     let outcome = outcome.run(count, |outcome| {
         let case = frame_random::case(bus, &mut random);
         let answer = case.answer();
-        outcome.counts.count_answer(case.call, &answer);
+        outcome.counts.count_answer(&case, &answer);
         let is_same = outcome.compare(archive, &case, &answer, &mut random);
         if is_same && answer.0 & 0xFF == 0 {
             let (name, other) = other_way(&case, &answer.1, &mut random);

@@ -2,21 +2,23 @@
 //! told from the rows that the archive gives.
 
 use super::promise_random::{self, Pair};
-use super::{call, lend, Archive, Outcome};
+use super::{call, lend, Archive, Outcome, ENOUGH};
 use crate::case::Case;
 use crate::counts::{on_bus, Counts};
 use crate::frame::bus::Bus;
 use crate::random::Random;
 use crate::report::line::LONGEST;
-use crate::report::promise::broken_sentences;
+use crate::report::promise::{broken_sentences, is_shown_kept, premise};
 use crate::report::rows::{is_short, is_unknown, left, parse, unknown_number, Rows};
 use crate::report::scene::parts_of;
-use crate::report::{find_prn, layout_key};
+use crate::report::{find_prn, Sought};
 use crate::supplement::records::Records;
+use crate::supplement::selector_length::Header;
 use crate::text::hex;
 
-/// What fewer records change, and what of the rows was tried.
-const CLASSES: [&str; 18] = [
+/// What fewer records change, what of the rows was tried, and which kind 4 records
+/// there were.
+const CLASSES: [&str; 29] = [
     "same report",
     "item turned Unknown 1",
     "item turned Unknown 2",
@@ -35,7 +37,22 @@ const CLASSES: [&str; 18] = [
     "Flagged turned Unknown",
     "widths and Left",
     "widths and Left, not 0",
+    "layout of selector length 0",
+    "layout of selector length 1",
+    "layout of selector length 2",
+    "kind 4 in both, header with a layout",
+    "kind 4 in both, header without a layout",
+    "kind 4 added, header without a layout",
+    "frame's kind 4 in both, header with a layout",
+    "frame's kind 4 in both, header without a layout",
+    "frame's kind 4 added, header without a layout",
+    PREMISE_BROKEN,
+    SHOWN_CHANGED,
 ];
+
+/// Pairs that break the premise, and those of them in which a shown line changed.
+const PREMISE_BROKEN: &str = "premise broken";
+const SHOWN_CHANGED: &str = "premise broken, a shown line changed";
 
 /// The counts of the classes of one bus.
 struct Tally<'a> {
@@ -49,47 +66,80 @@ impl Tally<'_> {
     }
 }
 
-/// Tries `count` random pairs of supplements with a frame or message.
+/// Tries random pairs of supplements with a frame or message until `count` of them
+/// are judged, which are those under the premise. Those that break it come on top.
 pub fn run(archive: Archive, count: u64, seed: u64) -> Outcome {
     let mut random = Random::new(seed);
     let classes = Bus::BOTH.map(|bus| CLASSES.map(|class| on_bus(bus, class)));
-    let outcome = Outcome::new("promise", classes.concat());
-    outcome.run(count, |outcome| {
+    let mut outcome = Outcome::new("promise", classes.concat());
+    while outcome.cases < count && outcome.differences.len() < ENOUGH {
         let pair = promise_random::pair(&mut random);
-        let mut tally = Tally {
-            bus: pair.bus,
-            counts: &mut outcome.counts,
-        };
-        if let Err(text) = try_pair(archive, &pair, &mut random, &mut tally) {
+        if let Err(text) = outcome.try_pair(archive, &pair, &mut random) {
             outcome.differences.push(format!("{text}\n  {pair}"));
         }
-    })
+    }
+    outcome.apart = Some(outcome.told_of_premise());
+    outcome
 }
 
-fn try_pair(
-    archive: Archive,
-    pair: &Pair,
-    random: &mut Random,
-    tally: &mut Tally,
-) -> Result<(), String> {
-    let fewer = report(archive, &pair.fewer, pair, random)?;
-    let more = report(archive, &pair.more, pair, random)?;
-    let no_rows = |bytes: &[u8]| format!("no rows of a report: {}", hex(bytes));
-    let fewer_rows = parse(&fewer).ok_or_else(|| no_rows(&fewer))?;
-    let more_rows = parse(&more).ok_or_else(|| no_rows(&more))?;
-    let key = layout_key(&parts_of(&pair.frame));
-    let has_layout = Records::of(&pair.fewer).layout(key).is_some();
-    let mut broken = broken_sentences(&fewer_rows, &more_rows, has_layout);
-    for (supplement, rows) in [(&pair.fewer, &fewer_rows), (&pair.more, &more_rows)] {
-        broken.extend(try_widths(supplement, pair, rows, tally));
+impl Outcome {
+    fn try_pair(
+        &mut self,
+        archive: Archive,
+        pair: &Pair,
+        random: &mut Random,
+    ) -> Result<(), String> {
+        let fewer = Side::of(archive, &pair.fewer, pair, random)?;
+        let more = Side::of(archive, &pair.more, pair, random)?;
+        let mut tally = Tally {
+            bus: pair.bus,
+            counts: &mut self.counts,
+        };
+        if premise(&fewer.records, &more.records) {
+            self.cases += 1;
+            judge(pair, &fewer, &more, &mut tally)
+        } else {
+            count_apart(&fewer, &more, &mut tally)
+        }
     }
-    count(&fewer_rows, &more_rows, tally);
-    if broken.is_empty() {
-        return Ok(());
+
+    fn told_of_premise(&self) -> String {
+        let on_both = |class| -> u64 {
+            let counts = Bus::BOTH.map(|bus| self.counts.of(&on_bus(bus, class)));
+            counts.iter().sum()
+        };
+        let judged = self.cases;
+        let [broken, changed] = [PREMISE_BROKEN, SHOWN_CHANGED].map(on_both);
+        let told = format!("{judged} pairs under the premise, judged");
+        format!(
+            "{told}; {broken} pairs that break it, not judged: in {changed} a shown line changed"
+        )
     }
-    let (fewer, more) = (hex(&fewer), hex(&more));
-    let sentences = broken.join("; ");
-    Err(format!("{sentences}\n  fewer {fewer}\n  more  {more}"))
+}
+
+/// A supplement's records, and the report that the archive gives under them.
+struct Side {
+    records: Records,
+    report: Vec<u8>,
+}
+
+impl Side {
+    fn of(
+        archive: Archive,
+        supplement: &[u8],
+        pair: &Pair,
+        random: &mut Random,
+    ) -> Result<Side, String> {
+        Ok(Side {
+            records: Records::of(supplement),
+            report: report(archive, supplement, pair, random)?,
+        })
+    }
+
+    fn rows(&self) -> Result<Rows<'_>, String> {
+        let no_rows = || format!("no rows of a report: {}", hex(&self.report));
+        parse(&self.report).ok_or_else(no_rows)
+    }
 }
 
 /// The rows of an accepted supplement and frame or message.
@@ -111,17 +161,51 @@ fn report(
     Ok(out.held()[..length].to_vec())
 }
 
+/// What is promised of a pair under the premise.
+fn judge(pair: &Pair, fewer: &Side, more: &Side, tally: &mut Tally) -> Result<(), String> {
+    let (fewer_rows, more_rows) = (fewer.rows()?, more.rows()?);
+    let parts = parts_of(&pair.frame);
+    // the layout that the second report uses, if the first has it
+    let sought = Sought::of(&more.records, &parts);
+    let layout = fewer.records.layout(sought.layout_key());
+    if let Some(layout) = layout {
+        let length = layout.selector_length;
+        tally.count(&format!("layout of selector length {length}"));
+    }
+    let mut broken = broken_sentences(&fewer_rows, &more_rows, layout.is_some());
+    for (side, rows) in [(fewer, &fewer_rows), (more, &more_rows)] {
+        broken.extend(try_widths(&side.records, pair, rows, tally));
+    }
+    count(&fewer_rows, &more_rows, tally);
+    count_kind_4(&fewer.records, &more.records, sought.header, tally);
+    if broken.is_empty() {
+        return Ok(());
+    }
+    let (fewer, more) = (hex(&fewer.report), hex(&more.report));
+    let sentences = broken.join("; ");
+    Err(format!("{sentences}\n  fewer {fewer}\n  more  {more}"))
+}
+
+/// Of a pair that breaks the premise nothing is promised but that there are reports.
+fn count_apart(fewer: &Side, more: &Side, tally: &mut Tally) -> Result<(), String> {
+    tally.count(PREMISE_BROKEN);
+    if !is_shown_kept(&fewer.rows()?, &more.rows()?) {
+        tally.count(SHOWN_CHANGED);
+    }
+    Ok(())
+}
+
 /// Item widths plus Left equal the bits after the selector, if no line is
 /// Short or lost.
 fn try_widths(
-    supplement: &[u8],
+    records: &Records,
     pair: &Pair,
     rows: &Rows,
     tally: &mut Tally,
 ) -> Option<&'static str> {
     let parts = parts_of(&pair.frame);
-    let records = Records::of(supplement);
-    let layout = records.layout(layout_key(&parts))?;
+    let sought = Sought::of(records, &parts);
+    let layout = records.layout(sought.layout_key())?;
     let is_lost = |line: &&[u8]| matches!(unknown_number(line), Some(1 | 2));
     let lines = rows.lines();
     if lines.iter().any(|line| is_short(line) || is_lost(line)) {
@@ -129,16 +213,35 @@ fn try_widths(
     }
     tally.count("widths and Left");
     let widths = layout.used().iter().map(|prn| {
-        let row = find_prn(&records, *prn);
+        let row = find_prn(records, *prn);
         row.map_or(0, |row| usize::from(row.width))
     });
-    let bits = 8 * parts.data.len().saturating_sub(1);
     let left = left(rows.remainder);
     if left.is_some_and(|left| left > 0) {
         tally.count("widths and Left, not 0");
     }
-    let is_kept = left.is_some_and(|left| widths.sum::<usize>() + left == bits);
+    let is_kept = left.is_some_and(|left| widths.sum::<usize>() + left == sought.bits());
     (!is_kept).then_some("widths and Left equal the bits after the selector")
+}
+
+/// The kind 4 records of the second: in the first too or added, and whether the
+/// first has a layout for the header.
+fn count_kind_4(first: &Records, second: &Records, frame: Header, tally: &mut Tally) {
+    for record in &second.selector_lengths {
+        let stands = match first.selector_lengths.contains(record) {
+            true => "in both",
+            false => "added",
+        };
+        let layout = match first.has_layout_for(record.header) {
+            true => "with",
+            false => "without",
+        };
+        let class = format!("kind 4 {stands}, header {layout} a layout");
+        tally.count(&class);
+        if record.header == frame {
+            tally.count(&format!("frame's {class}"));
+        }
+    }
 }
 
 /// What the fewer records changed.

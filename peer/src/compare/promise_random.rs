@@ -8,7 +8,7 @@ use crate::random::Random;
 use crate::report::neighbours::with_others;
 use crate::report::scene_random::scene_on;
 use crate::supplement::draft::{shuffle, Bytes};
-use crate::supplement::record::{LAYOUT, PRN, SLOT};
+use crate::supplement::record::{LAYOUT, PRN, SELECTOR_LENGTH, SLOT};
 use crate::text::hex;
 use std::fmt;
 
@@ -47,7 +47,7 @@ pub fn pair(random: &mut Random) -> Pair {
 }
 
 fn take_away(records: &mut Vec<Bytes>, random: &mut Random) {
-    match random.below(16) {
+    match random.below(20) {
         0 => {}
         1..=7 if !records.is_empty() => {
             records.remove(random.below(records.len()));
@@ -56,9 +56,24 @@ fn take_away(records: &mut Vec<Bytes>, random: &mut Random) {
         9 => records.retain(|record| record[0] != PRN),
         10 => records.retain(|record| record[0] != SLOT),
         11 => records.clear(),
+        12 => records.retain(|record| record[0] != SELECTOR_LENGTH),
+        13..=15 => take_header_away(records, random),
         _ => {
             let turns = random.pick(&[2, 3, 5]);
             records.retain(|_| !random.once_in(turns));
         }
     }
+}
+
+/// One kind 4 record, and what layouts there are for its header.
+fn take_header_away(records: &mut Vec<Bytes>, random: &mut Random) {
+    let kind_4 = records.iter().filter(|record| record[0] == SELECTOR_LENGTH);
+    let kind_4: Vec<Bytes> = kind_4.cloned().collect();
+    if kind_4.is_empty() {
+        return;
+    }
+    let header = &kind_4[random.below(kind_4.len())][1..3];
+    let is_of_header =
+        |record: &Bytes| [LAYOUT, SELECTOR_LENGTH].contains(&record[0]) && record[1..3] == *header;
+    records.retain(|record| !is_of_header(record));
 }

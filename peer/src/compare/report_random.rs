@@ -43,9 +43,9 @@ pub fn random_bus(random: &mut Random) -> Bus {
     }
 }
 
-/// The layout alone, and what the SAE tables say of its PRNs.
+/// The records of the layout alone, and what the SAE tables say of its PRNs.
 fn with_near_sae(scene: &Scene, random: &mut Random) -> Vec<Bytes> {
-    let mut records = vec![scene.records()[0].clone()];
+    let mut records = scene.seeking_records();
     if random.once_in(2) {
         supplement_random::spoil(&mut records, random);
     }

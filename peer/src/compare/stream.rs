@@ -114,7 +114,7 @@ impl Outcome {
             streams += 1;
         }
         let counts = format!("{streams} streams, {tried} cuts into three parts");
-        self.all_cuts = Some(format!("{counts}, {differ} differ"));
+        self.apart = Some(format!("{counts}, {differ} differ"));
         self
     }
 }

@@ -4,9 +4,11 @@ use crate::random::Random;
 use crate::sae::{Prn, Slot, PRNS, SLOTS};
 use crate::supplement::draft::{
     distinct, kinds_of_length, layout_record, prn_record, random_kind, random_layout, random_prn,
-    random_record, random_slot, slot_record, Bytes, Layouts,
+    random_record, random_selector_length, random_slot, selector_length_record, slot_record, Bytes,
+    Layouts, COUNT_PLACE, SECOND_SELECTOR_PLACE,
 };
-use crate::supplement::record::{length, LAYOUT, PLACES, PRN, SLOT};
+use crate::supplement::record::{length, LAYOUT, PLACES, PRN, SELECTOR_LENGTH, SLOT};
+use crate::supplement::selector_length::MOST;
 use crate::supplement::MOST_BYTES;
 
 pub fn supplement(random: &mut Random) -> Vec<u8> {
@@ -56,7 +58,7 @@ pub fn spoil(records: &mut Vec<Bytes>, random: &mut Random) {
         return records.push(spoiled_field(random));
     }
     let place = random.below(records.len());
-    match random.below(9) {
+    match random.below(10) {
         0 | 1 => records[place] = spoiled_field(random),
         2 => break_field(&mut records[place], random),
         3 => records.push(copy_of(&records[place], random)),
@@ -68,10 +70,23 @@ pub fn spoil(records: &mut Vec<Bytes>, random: &mut Random) {
             records[last].truncate(length);
         }
         7 => records[place][0] = random.byte(),
+        8 => lose_byte(&mut records[place]),
         _ => {
             let byte = random.byte();
             records.insert(place, vec![byte]);
         }
+    }
+}
+
+/// A layout as it was when its selector had one byte; any other record is cut, as
+/// long as a byte of it is left.
+fn lose_byte(record: &mut Bytes) {
+    match record[..] {
+        [LAYOUT, _, _, _, _, _, ..] => {
+            record.remove(SECOND_SELECTOR_PLACE);
+        }
+        [_, _, ..] => record.truncate(record.len() - 1),
+        _ => {}
     }
 }
 
@@ -89,9 +104,10 @@ fn spoil_bytes(supplement: &mut Vec<u8>, random: &mut Random) {
     }
 }
 
-/// The values about the bounds of form and width.
+/// The values about the bounds of form, width and the selector's length.
 const FORMS: [u8; 6] = [0, 1, 2, 9, 10, 255];
 const WIDTHS: [u8; 6] = [0, 1, 63, 64, 65, 255];
+const LENGTHS: [u8; 6] = [0, 1, 2, 3, 4, 255];
 
 /// A new record with one field at a side of its bound.
 fn spoiled_field(random: &mut Random) -> Bytes {
@@ -106,7 +122,8 @@ fn spoiled_field(random: &mut Random) -> Bytes {
             }
             prn_record(&prn)
         }
-        _ => spoiled_layout(random),
+        LAYOUT => spoiled_layout(random),
+        _ => spoiled_selector_length(random),
     }
 }
 
@@ -138,22 +155,34 @@ fn spoiled_layout(random: &mut Random) -> Bytes {
     match random.below(6) {
         0 => layout.first_byte = byte,
         1 => layout.target = random.pick(&[0, 1, byte]),
-        2 => layout.present = random.pick(&[0, 1, 2, 255]),
-        3 => layout.selector = random.pick(&[0, 1, byte]),
+        2 => layout.selector_length = random.pick(&LENGTHS),
+        3 => layout.selector[random.below(MOST)] = random.pick(&[0, 1, byte]),
         4 => layout.count = random.pick(&[0, 15, 16, 17, 255, byte % 20]),
         _ => layout.prns[random.below(PLACES)] = random.pick(&[0x0001, 0x0100]),
     }
     layout_record(&layout)
 }
 
-/// One byte of a record changed, or its field outside the key made zero.
+fn spoiled_selector_length(random: &mut Random) -> Bytes {
+    let mut record = random_selector_length(random);
+    let byte = random.byte();
+    match random.below(3) {
+        0 => record.header[0] = byte,
+        1 => record.header[1] = random.pick(&[0, 1, byte]),
+        _ => record.length = random.pick(&LENGTHS),
+    }
+    selector_length_record(&record)
+}
+
+/// One byte of a record changed, or its field outside the key put out of its range.
 fn break_field(record: &mut Bytes, random: &mut Random) {
     let place = random.below(record.len());
     let is_whole = length(record[0]) == Some(record.len());
     match (record[0], random.once_in(2) && is_whole) {
         (SLOT, true) => record[7..9].fill(0),
         (PRN, true) => record[3] = 0,
-        (LAYOUT, true) => record[5] = 17,
+        (LAYOUT, true) => record[COUNT_PLACE] = 17,
+        (SELECTOR_LENGTH, true) => record[3] = 3,
         _ => record[place] ^= 1 << random.below(8),
     }
 }
@@ -199,7 +228,7 @@ fn row_of<T: Copy>(rows: &[T], random: &mut Random) -> T {
 
 /// A key that is a row's or differs from one by little.
 fn near_sae(random: &mut Random) -> Bytes {
-    match random.below(3) {
+    match random.below(4) {
         0 => {
             let row = random.pick(PRNS);
             let prn = row.prn.wrapping_add(random.pick(&[0, 1, 0xFFFF, 0x0100]));
@@ -214,10 +243,16 @@ fn near_sae(random: &mut Random) -> Bytes {
             }
             slot_record(&row)
         }
-        _ => {
+        2 => {
             let mut record = random_record(LAYOUT, random);
             let row = slot_record(&random.pick(SLOTS));
             record[1..5].copy_from_slice(&row[1..5]);
+            record
+        }
+        _ => {
+            let mut record = random_record(SELECTOR_LENGTH, random);
+            let row = prn_record(&random.pick(PRNS));
+            record[1..3].copy_from_slice(&row[1..3]);
             record
         }
     }

@@ -1,15 +1,31 @@
 //! What a report keeps when records are added to the supplement or taken away,
-//! told from the rows of two reports of one frame.
+//! told from the rows of two reports of one frame; and the premise under which it
+//! is promised.
 
 use super::line::verdict;
 use super::rows::{is_unknown, Rows};
+use crate::supplement::records::Records;
+use crate::supplement::selector_length::SelectorLength;
+
+/// The second supplement has no kind 4 record for any header for which the first
+/// has a layout, except those that the first has too.
+pub fn premise(first: &Records, second: &Records) -> bool {
+    let is_against = |record: &SelectorLength| {
+        first.has_layout_for(record.header) && !first.selector_lengths.contains(record)
+    };
+    !second.selector_lengths.iter().any(is_against)
+}
 
 /// A sentence of the promise, and whether two reports keep it, the first under
-/// fewer records. The last argument tells whether these have the layout sought.
+/// fewer records. The last argument tells whether these have the layout that the
+/// second uses.
 type Sentence = (&'static str, fn(&Rows, &Rows, bool) -> bool);
 
 const SENTENCES: [Sentence; 6] = [
-    ("a shown line is the same with more records", is_shown_kept),
+    (
+        "a shown line is the same with more records",
+        |fewer, more, _| is_shown_kept(fewer, more),
+    ),
     ("Clear stays Clear", |fewer, more, _| {
         fewer.verdict != verdict::CLEAR || more.verdict == verdict::CLEAR
     }),
@@ -41,7 +57,7 @@ pub fn broken_sentences(fewer: &Rows, more: &Rows, has_layout: bool) -> Vec<&'st
 }
 
 /// Each line of the first by name: it is Unknown, or the second has the same.
-fn is_shown_kept(fewer: &Rows, more: &Rows, _: bool) -> bool {
+pub fn is_shown_kept(fewer: &Rows, more: &Rows) -> bool {
     let is_kept = |fewer: &[u8], more: Option<&&[u8]>| {
         is_unknown(fewer) || more.is_some_and(|more| *more == fewer)
     };
@@ -65,6 +81,59 @@ fn is_same_or_less(fewer: &Rows, more: &Rows, _: bool) -> bool {
 #[cfg(test)]
 mod tests {
     use super::*;
+    use crate::case::Case;
+    use crate::frame::check_byte::checked;
+    use crate::report::rows::parse;
+    use crate::supplement::draft::{layout_record, selector_length_record, Bytes};
+    use crate::supplement::layout::Layout;
+    use crate::supplement::selector_length::Header;
+
+    fn layout(header: Header, length: u8) -> Bytes {
+        let [first_byte, target] = header;
+        let selector = if length == 1 { 0x41 } else { 0 };
+        let key = [first_byte, target, length, selector, 0];
+        layout_record(&Layout::of_key(key).with_prns(&[0x1025]))
+    }
+
+    fn length(header: Header, length: u8) -> Bytes {
+        selector_length_record(&SelectorLength { header, length })
+    }
+
+    #[test]
+    fn the_premise_by_headers() {
+        let (one, other, bare) = ([0x08, 0x6B], [0x08, 0x6A], [0x18, 0]);
+        let holds = |first: &[Bytes], added: &[Bytes]| {
+            let second = [first, added].concat().concat();
+            premise(&Records::of(&first.concat()), &Records::of(&second))
+        };
+        let layouts = [layout(one, 1), layout(bare, 0)];
+        assert!(holds(&layouts, &[]));
+        assert!(holds(&layouts, &[length(other, 2), layout(other, 1)]));
+        assert!(!holds(&layouts, &[length(one, 2)]));
+        // of the usual length, and where no layout of the first is found
+        assert!(!holds(&layouts, &[length(one, 1)]));
+        assert!(!holds(&layouts, &[length(bare, 0)]));
+        let with_length = [layout(one, 1), length(one, 2)];
+        assert!(holds(&with_length, &[layout(one, 0), length(other, 0)]));
+        assert!(holds(&[], &[length(one, 2), layout(one, 1)]));
+    }
+
+    /// A record of length 0 added to the first supplement takes a shown line away.
+    #[test]
+    fn the_premise_is_needed() {
+        let header = [0x08, 0x6B];
+        let fewer = layout(header, 1);
+        let more = [layout(header, 1), length(header, 0)].concat();
+        let first = checked(&[0x48, 0x6B, 0x10, 0x41, 0x65]);
+        let report = |supplement: &[u8]| {
+            let case = Case::report(supplement.to_vec(), (first.clone(), Vec::new()));
+            case.answer().1
+        };
+        let (shown, changed) = (report(&fewer), report(&more));
+        assert!(!premise(&Records::of(&fewer), &Records::of(&more)));
+        let rows = |bytes| parse(bytes).expect("a report");
+        assert!(!is_shown_kept(&rows(&shown), &rows(&changed)));
+    }
 
     fn rows<'a>(items: &[&'a [u8]], remainder: &'a [u8], verdict: u8) -> Rows<'a> {
         Rows {
