@@ -26,9 +26,9 @@
 extern "C" {
 #endif
 
-/* The version of this interface: its calls, answers, refusals and rows. The
- * first number changes where a caller has to change. */
-#define RAKHUBOLE_VERSION "3.1"
+/* The version of this interface: its calls, answers, refusals, rows and records.
+ * The first number changes where a caller or a supplement has to change. */
+#define RAKHUBOLE_VERSION "4.0"
 
 /* The refusal in an answer, 0 for none. */
 #define RAKHUBOLE_REFUSAL(answer) ((unsigned)((answer) & 0xFF))
@@ -61,7 +61,7 @@ enum {
     RAKHUBOLE_FIRST_BYTE_WRONG = 9,
     /* the supplement has more than 16,384 bytes */
     RAKHUBOLE_SUPPLEMENT_TOO_LONG = 10,
-    /* a record's kind byte is not 1, 2 or 3 */
+    /* a record's kind byte is not 1, 2, 3 or 4 */
     RAKHUBOLE_RECORD_KIND_UNKNOWN = 11,
     /* the supplement ends within a record */
     RAKHUBOLE_RECORD_CUT = 12,
@@ -146,8 +146,14 @@ uint64_t rakhubole_iso9141_write(const uint8_t *header, size_t header_length,
  *     multiplier (2), divisor (2), offset (4, signed), lowest raw (4),
  *     highest raw (4)
  *   kind 2, PRN, 6 bytes: PRN (2), form (1), width (1), SLOT number (2)
- *   kind 3, layout, 37 bytes: first byte, target, selector present (0 or 1),
- *     selector, count (0 to 16), sixteen PRNs (2 each)
+ *   kind 3, layout, 38 bytes: first byte, target, selector length (0, 1 or 2),
+ *     selector (2, unused ones zero), count (0 to 16), sixteen PRNs (2 each)
+ *   kind 4, selector length, 3 bytes: first byte, target, selector length (0, 1
+ *     or 2)
+ *
+ * No two records of a kind have the same key: the first three fields of a SLOT,
+ * the first of a PRN, the first five of a layout, the first two of a selector
+ * length.
  *
  * The empty supplement is accepted. Refused: bits 8 to 31 of the answer are
  * the place of the first record with a fault, in bytes from the start.
@@ -160,6 +166,12 @@ uint64_t rakhubole_supplement_check(const uint8_t *supplement, size_t supplement
  * lines in the order of the layout's PRNs, the remainder, the response and the
  * verdict, each a row at the start of `out`. RAKHUBOLE_ROWS_MOST bytes are
  * always enough.
+ *
+ * The selector is the first data bytes, as many as the supplement's record of
+ * kind 4 says for the header (first byte, its priority bits cleared if H = 0;
+ * target, 0 if H = 1), one where it has none, and fewer where there are no more
+ * data. The layout is the one with this header and just this selector; the items
+ * follow the selector.
  *
  * Accepted: bits 8 to 31 of the answer are the length of the rows. No byte of
  * `out` beyond them is touched. Refused: with 10 to 15 these bits are the place
