@@ -15,6 +15,9 @@ static void put_refusal(const struct supplement *supplement, uint64_t answer)
     char words[FAULT_SIZE];
     supplement_fault(supplement, answer, words);
     printf(": refused\n  %s\n", words);
+    const char *earlier = earlier_form_words(supplement);
+    if (earlier)
+        printf("  it %s\n", earlier);
     if (RAKHUBOLE_REFUSAL(answer) == RAKHUBOLE_SUPPLEMENT_TOO_LONG)
         return;
     struct record record = record_at(supplement, RAKHUBOLE_PLACE(answer));

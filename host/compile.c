@@ -16,7 +16,7 @@
 /* The records and the line of each. */
 struct draft {
     struct supplement supplement;
-    size_t lines[SUPPLEMENT_MOST / PRN_SIZE + 1];
+    size_t lines[SUPPLEMENT_MOST / SELECTOR_SIZE + 1]; /* no record is shorter */
     size_t count;
 };
 

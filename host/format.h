@@ -26,7 +26,7 @@ enum { WIDTH_MOST = 64, WIDTH_SHOWN_MOST = 32 };
 
 enum { SUPPLEMENT_MOST = 16384 };
 
-enum { RECORD_SLOT = 1, RECORD_PRN = 2, RECORD_LAYOUT = 3 };
+enum { RECORD_SLOT = 1, RECORD_PRN = 2, RECORD_LAYOUT = 3, RECORD_SELECTOR = 4 };
 
 /* Where the fields of a record stand, how many of its first bytes are its key,
  * and its size, the kind byte counted in each. A SLOT is named by form, width
@@ -54,14 +54,25 @@ enum {
 enum {
     LAYOUT_FIRST_BYTE = 1,
     LAYOUT_TARGET = 2,
-    LAYOUT_HAS_SELECTOR = 3,
+    LAYOUT_SELECTOR_LENGTH = 3,
     LAYOUT_SELECTOR = 4,
-    LAYOUT_COUNT = 5,
-    LAYOUT_PRN_LIST = 6,
-    LAYOUT_KEY_SIZE = 5,
-    LAYOUT_SIZE = 38
+    LAYOUT_COUNT = 6,
+    LAYOUT_PRN_LIST = 7,
+    LAYOUT_KEY_SIZE = 6,
+    LAYOUT_SIZE = 39
 };
 enum { LAYOUT_PRNS = 16 };
+enum {
+    SELECTOR_FIRST_BYTE = 1,
+    SELECTOR_TARGET = 2,
+    SELECTOR_LENGTH = 3,
+    SELECTOR_KEY_SIZE = 3,
+    SELECTOR_SIZE = 4
+};
+
+/* The length of a selector: the most, and that for a header without a record of
+ * it. */
+enum { SELECTOR_MOST = 2, SELECTOR_UNSAID = 1 };
 
 /* The records of an adapter's stream: their kinds, and where the fields of a
  * frame's stand; their sizes are in include/rakhubole.h. */

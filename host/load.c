@@ -33,5 +33,8 @@ int supplement_accept(struct supplement *supplement, const char *path)
     char words[FAULT_SIZE];
     supplement_fault(supplement, answer, words);
     complain("%s is refused: %s", shown_path(path), words);
+    const char *earlier = earlier_form_words(supplement);
+    if (earlier)
+        complain("%s %s", shown_path(path), earlier);
     return STATUS_REFUSED;
 }

@@ -13,8 +13,11 @@ struct layout layout_sought(const struct supplement *supplement, const uint8_t *
     uint8_t *start = layout.start;
     start[LAYOUT_FIRST_BYTE] = is_short ? header[0] : (uint8_t)(header[0] & ~PRIORITY_BITS);
     start[LAYOUT_TARGET] = is_short ? 0 : header[1];
-    start[LAYOUT_HAS_SELECTOR] = data_length > 0;
-    start[LAYOUT_SELECTOR] = data_length > 0 ? data[0] : 0;
+    size_t length = selector_length_of(supplement, start + LAYOUT_FIRST_BYTE).bytes;
+    length = length < SELECTOR_MOST ? length : SELECTOR_MOST; /* what the key has room for */
+    length = length < data_length ? length : data_length;
+    start[LAYOUT_SELECTOR_LENGTH] = (uint8_t)length;
+    memcpy(start + LAYOUT_SELECTOR, data, length);
     struct record record;
     layout.is_found = record_find(supplement, start, sizeof layout.start, &record);
     if (!layout.is_found)

@@ -11,6 +11,7 @@ size_t record_size(uint8_t kind)
     case RECORD_SLOT: return SLOT_SIZE;
     case RECORD_PRN: return PRN_SIZE;
     case RECORD_LAYOUT: return LAYOUT_SIZE;
+    case RECORD_SELECTOR: return SELECTOR_SIZE;
     default: return 0;
     }
 }
@@ -20,7 +21,8 @@ size_t record_key_size(uint8_t kind)
     switch (kind) {
     case RECORD_SLOT: return SLOT_KEY_SIZE;
     case RECORD_PRN: return PRN_KEY_SIZE;
-    default: return LAYOUT_KEY_SIZE;
+    case RECORD_LAYOUT: return LAYOUT_KEY_SIZE;
+    default: return SELECTOR_KEY_SIZE;
     }
 }
 
@@ -86,14 +88,43 @@ uint16_t layout_prn(const struct record *record, size_t i)
     return number16(record->bytes + LAYOUT_PRN_LIST + 2 * i);
 }
 
+struct selector_length selector_length_of(const struct supplement *supplement,
+                                          const uint8_t header[2])
+{
+    const uint8_t start[SELECTOR_KEY_SIZE] = {RECORD_SELECTOR, header[0], header[1]};
+    struct record record;
+    if (!record_find(supplement, start, sizeof start, &record))
+        return (struct selector_length){SELECTOR_UNSAID, false};
+    return (struct selector_length){record.bytes[SELECTOR_LENGTH], true};
+}
+
+void header_text(const uint8_t header[2], char text[HEADER_TEXT_SIZE])
+{
+    if ((header[0] & BIT_H) == 0)
+        snprintf(text, HEADER_TEXT_SIZE, "header %02X %02X", header[0], header[1]);
+    else
+        snprintf(text, HEADER_TEXT_SIZE, "header %02X", header[0]);
+}
+
+void selector_text(const uint8_t start[LAYOUT_KEY_SIZE], const char *mark,
+                   char text[SELECTOR_TEXT_SIZE])
+{
+    const uint8_t *bytes = start + LAYOUT_SELECTOR;
+    if (start[LAYOUT_SELECTOR_LENGTH] == 0)
+        snprintf(text, SELECTOR_TEXT_SIZE, "no selector");
+    else if (start[LAYOUT_SELECTOR_LENGTH] == 1)
+        snprintf(text, SELECTOR_TEXT_SIZE, "selector %02X%s", bytes[0], mark);
+    else
+        snprintf(text, SELECTOR_TEXT_SIZE, "selector %02X%s %02X%s", bytes[0], mark, bytes[1],
+                 mark);
+}
+
 void layout_key_text(const uint8_t start[LAYOUT_KEY_SIZE], char text[LAYOUT_TEXT_SIZE])
 {
-    char target[sizeof " FF"] = "", selector[sizeof " selector FF"] = " no selector";
-    if ((start[LAYOUT_FIRST_BYTE] & BIT_H) == 0)
-        snprintf(target, sizeof target, " %02X", start[LAYOUT_TARGET]);
-    if (start[LAYOUT_HAS_SELECTOR] != 0)
-        snprintf(selector, sizeof selector, " selector %02X", start[LAYOUT_SELECTOR]);
-    snprintf(text, LAYOUT_TEXT_SIZE, "header %02X%s%s", start[LAYOUT_FIRST_BYTE], target, selector);
+    char header[HEADER_TEXT_SIZE], selector[SELECTOR_TEXT_SIZE];
+    header_text(start + LAYOUT_FIRST_BYTE, header);
+    selector_text(start, "", selector);
+    snprintf(text, LAYOUT_TEXT_SIZE, "%s %s", header, selector);
 }
 
 void slot_name(struct slot_key key, char name[SLOT_NAME_SIZE])

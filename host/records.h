@@ -54,9 +54,28 @@ struct slot_key slot_key_of(const struct record *record);
 /* A PRN of a layout record, counted from 0. */
 uint16_t layout_prn(const struct record *record, size_t i);
 
+/* How many data bytes are the selector of frames with this header, first byte and
+ * target, and whether a record says so. */
+struct selector_length {
+    size_t bytes;
+    bool is_said;
+};
+struct selector_length selector_length_of(const struct supplement *supplement,
+                                          const uint8_t header[2]);
+
+/* First byte and target as a supplement's text has them: "header 08 6B". */
+enum { HEADER_TEXT_SIZE = 16 };
+void header_text(const uint8_t header[2], char text[HEADER_TEXT_SIZE]);
+
+/* The selector of a layout record that starts so, with this mark behind each
+ * byte: "selector 41h 0Ch", "no selector". */
+enum { SELECTOR_TEXT_SIZE = 24 };
+void selector_text(const uint8_t start[LAYOUT_KEY_SIZE], const char *mark,
+                   char text[SELECTOR_TEXT_SIZE]);
+
 /* The key of a layout record that starts so, as a supplement's text has it:
- * "header 08 6B selector 41". */
-enum { LAYOUT_TEXT_SIZE = 32 };
+ * "header 08 6B selector 41 0C". */
+enum { LAYOUT_TEXT_SIZE = 40 };
 void layout_key_text(const uint8_t start[LAYOUT_KEY_SIZE], char text[LAYOUT_TEXT_SIZE]);
 
 /* The name as document 003 prints it, "UNM-08-101". */

@@ -10,24 +10,29 @@ enum { KEY_TEXT_SIZE = 48, DETAIL_SIZE = 96 };
 static void key_text(const struct record *record, char text[KEY_TEXT_SIZE])
 {
     const uint8_t *bytes = record->bytes;
-    char slot[SLOT_NAME_SIZE];
-    if (bytes[0] == RECORD_PRN) {
-        snprintf(text, KEY_TEXT_SIZE, " %04Xh", number16(bytes + PRN_NUMBER));
-    } else if (bytes[0] == RECORD_SLOT) {
+    char slot[SLOT_NAME_SIZE], selector[SELECTOR_TEXT_SIZE];
+    switch (bytes[0]) {
+    case RECORD_SLOT:
         slot_name(slot_key_of(record), slot);
         snprintf(text, KEY_TEXT_SIZE, " %s", slot);
-    } else if (bytes[LAYOUT_HAS_SELECTOR] == 0) {
-        snprintf(text, KEY_TEXT_SIZE, " %02Xh %02Xh no selector", bytes[LAYOUT_FIRST_BYTE],
-                 bytes[LAYOUT_TARGET]);
-    } else {
-        snprintf(text, KEY_TEXT_SIZE, " %02Xh %02Xh selector %02Xh", bytes[LAYOUT_FIRST_BYTE],
-                 bytes[LAYOUT_TARGET], bytes[LAYOUT_SELECTOR]);
+        break;
+    case RECORD_PRN:
+        snprintf(text, KEY_TEXT_SIZE, " %04Xh", number16(bytes + PRN_NUMBER));
+        break;
+    case RECORD_LAYOUT:
+        selector_text(bytes, "h", selector);
+        snprintf(text, KEY_TEXT_SIZE, " %02Xh %02Xh %s", bytes[LAYOUT_FIRST_BYTE],
+                 bytes[LAYOUT_TARGET], selector);
+        break;
+    default:
+        snprintf(text, KEY_TEXT_SIZE, " of %02Xh %02Xh", bytes[SELECTOR_FIRST_BYTE],
+                 bytes[SELECTOR_TARGET]);
     }
 }
 
 void record_title(const struct record *record, char title[RECORD_TITLE_SIZE])
 {
-    static const char *const kinds[] = {"SLOT", "PRN", "layout"};
+    static const char *const kinds[] = {"SLOT", "PRN", "layout", "selector length"};
     uint8_t kind = record->bytes[0];
     char key[KEY_TEXT_SIZE] = "";
     if (record_size(kind) == 0) {
@@ -68,20 +73,29 @@ static const char *slot_fault(const struct record *record)
     return NULL;
 }
 
-static const char *layout_fault(const struct record *record)
+/* Of header and selector length, with which a layout begins too. */
+static const char *selector_fault(const struct record *record)
 {
     const uint8_t *bytes = record->bytes;
-    uint8_t first_byte = bytes[LAYOUT_FIRST_BYTE];
-    if (bytes[LAYOUT_HAS_SELECTOR] > 1)
-        return "whether there is a selector is neither 0 nor 1";
-    if (bytes[LAYOUT_COUNT] > LAYOUT_PRNS)
-        return "the count is above 16";
+    uint8_t first_byte = bytes[SELECTOR_FIRST_BYTE];
     if ((first_byte & BIT_H) == 0 && (first_byte & PRIORITY_BITS) != 0)
         return "the first byte has H = 0 and priority bits";
-    if ((first_byte & BIT_H) != 0 && bytes[LAYOUT_TARGET] != 0)
+    if ((first_byte & BIT_H) != 0 && bytes[SELECTOR_TARGET] != 0)
         return "the first byte has H = 1, so the target must be 0";
-    if (bytes[LAYOUT_HAS_SELECTOR] == 0 && bytes[LAYOUT_SELECTOR] != 0)
-        return "an absent selector is not 0";
+    return bytes[SELECTOR_LENGTH] > SELECTOR_MOST ? "the selector length is not 0, 1 or 2" : NULL;
+}
+
+static const char *layout_fault(const struct record *record)
+{
+    const uint8_t *bytes = record->bytes, *selector = bytes + LAYOUT_SELECTOR;
+    uint8_t length = bytes[LAYOUT_SELECTOR_LENGTH];
+    const char *fault = selector_fault(record);
+    if (fault)
+        return fault;
+    if ((length < 1 && selector[0] != 0) || (length < 2 && selector[1] != 0))
+        return "an unused selector byte is not 0";
+    if (bytes[LAYOUT_COUNT] > LAYOUT_PRNS)
+        return "the count is above 16";
     for (size_t i = bytes[LAYOUT_COUNT]; i < LAYOUT_PRNS; i++)
         if (layout_prn(record, i) != 0)
             return "a PRN behind the count is not 0";
@@ -93,7 +107,8 @@ static const char *field_fault(const struct record *record)
     switch (record->bytes[0]) {
     case RECORD_SLOT: return slot_fault(record);
     case RECORD_PRN: return form_fault(slot_key_of(record));
-    default: return layout_fault(record);
+    case RECORD_LAYOUT: return layout_fault(record);
+    default: return selector_fault(record);
     }
 }
 
@@ -102,7 +117,7 @@ void record_fault(const struct record *record, unsigned refusal, char words[RECO
     char detail[DETAIL_SIZE] = "";
     const char *fault;
     if (refusal == RAKHUBOLE_RECORD_KIND_UNKNOWN)
-        snprintf(detail, sizeof detail, ": 1 is a SLOT, 2 a PRN, 3 a layout%s",
+        snprintf(detail, sizeof detail, ": 1 is a SLOT, 2 a PRN, 3 a layout, 4 a selector length%s",
                  record->place == 0 ? "; is this a text to compile?" : "");
     else if (refusal == RAKHUBOLE_RECORD_CUT)
         snprintf(detail, sizeof detail, ": %zu bytes of %zu", record->length,
@@ -137,4 +152,37 @@ void supplement_fault(const struct supplement *supplement, uint64_t answer,
     }
     snprintf(words, FAULT_SIZE, "record %zu at byte %zu, %s: %s%s", record.number, record.place,
              title, fault, alike);
+}
+
+/* A layout in the earlier form: whether there is a selector, and one byte for it. */
+enum { EARLIER_LAYOUT_SIZE = 38 };
+
+/* The size of a record in that form, 0 for a kind that it does not have. */
+static size_t earlier_size(uint8_t kind)
+{
+    switch (kind) {
+    case RECORD_LAYOUT: return EARLIER_LAYOUT_SIZE;
+    case RECORD_SELECTOR: return 0;
+    default: return record_size(kind);
+    }
+}
+
+/* Not for a file over the limit, of which only the start was read. */
+static bool fits_earlier_form(const struct supplement *supplement)
+{
+    size_t place = 0, size;
+    bool has_layout = false;
+    while (place < supplement->length && (size = earlier_size(supplement->bytes[place])) != 0) {
+        has_layout = has_layout || supplement->bytes[place] == RECORD_LAYOUT;
+        place += size;
+    }
+    return has_layout && place == supplement->length && place <= SUPPLEMENT_MOST;
+}
+
+const char *earlier_form_words(const struct supplement *supplement)
+{
+    return fits_earlier_form(supplement)
+               ? "looks like a file in the earlier form of layouts, before selector lengths: ask "
+                 "its maker to reissue it, or compile its text again"
+               : NULL;
 }

@@ -61,6 +61,23 @@ static void put_layout(const struct supplement *supplement, const struct record 
     }
 }
 
+static void put_selector_length(const struct record *record)
+{
+    char header[HEADER_TEXT_SIZE];
+    header_text(record->bytes + SELECTOR_FIRST_BYTE, header);
+    printf("selector %s length %u\n", header, record->bytes[SELECTOR_LENGTH]);
+}
+
+static void put_record(const struct supplement *supplement, const struct record *record)
+{
+    switch (record->bytes[0]) {
+    case RECORD_SLOT: put_slot(record); break;
+    case RECORD_PRN: put_prn(record); break;
+    case RECORD_LAYOUT: put_layout(supplement, record); break;
+    default: put_selector_length(record);
+    }
+}
+
 int command_show(const struct arguments *arguments)
 {
     struct supplement supplement;
@@ -70,13 +87,7 @@ int command_show(const struct arguments *arguments)
     put_summary(stdout, &supplement, "# ");
     puts("# Names are document 003's: shown, not proved.");
     struct record record = {0, 0, 0, NULL};
-    while (record_next(&supplement, &record)) {
-        if (record.bytes[0] == RECORD_SLOT)
-            put_slot(&record);
-        else if (record.bytes[0] == RECORD_PRN)
-            put_prn(&record);
-        else
-            put_layout(&supplement, &record);
-    }
+    while (record_next(&supplement, &record))
+        put_record(&supplement, &record);
     return STATUS_DONE;
 }

@@ -5,19 +5,20 @@
 
 /* How many records there are, by kind, and SLOTs by form. */
 struct census {
-    size_t records, slots, prns, layouts;
+    size_t records, slots, prns, layouts, selectors;
     size_t by_form[FORM_LAST + 1];
 };
 
 static struct census census_of(const struct supplement *supplement)
 {
-    struct census census = {0, 0, 0, 0, {0}};
+    struct census census = {0, 0, 0, 0, 0, {0}};
     struct record record = {0, 0, 0, NULL};
     while (record_next(supplement, &record)) {
         census.records++;
         census.slots += record.bytes[0] == RECORD_SLOT;
         census.prns += record.bytes[0] == RECORD_PRN;
         census.layouts += record.bytes[0] == RECORD_LAYOUT;
+        census.selectors += record.bytes[0] == RECORD_SELECTOR;
         if (record.bytes[0] == RECORD_SLOT && form_name(slot_key_of(&record).form))
             census.by_form[slot_key_of(&record).form]++;
     }
@@ -65,6 +66,31 @@ static void put_missing_prns(FILE *file, const struct supplement *supplement, co
         putc('\n', file);
 }
 
+/* Names a layout that no frame uses, or only one whose data end with the selector. */
+static void put_idle_layout(FILE *file, const struct supplement *supplement,
+                            const struct record *record, const char *before)
+{
+    struct selector_length header =
+        selector_length_of(supplement, record->bytes + LAYOUT_FIRST_BYTE);
+    size_t length = record->bytes[LAYOUT_SELECTOR_LENGTH];
+    bool has_items = record->bytes[LAYOUT_COUNT] > 0;
+    if (length == header.bytes || (length < header.bytes && !has_items))
+        return;
+    char key[LAYOUT_TEXT_SIZE];
+    layout_key_text(record->bytes, key);
+    fprintf(file, "%slayout %s %s: this header's selector length is %zu%s\n", before, key,
+            length > header.bytes ? "is never used" : "never has data for its items",
+            header.bytes, header.is_said ? "" : ", since none is given");
+}
+
+static void put_idle_layouts(FILE *file, const struct supplement *supplement, const char *before)
+{
+    struct record record = {0, 0, 0, NULL};
+    while (record_next(supplement, &record))
+        if (record.bytes[0] == RECORD_LAYOUT)
+            put_idle_layout(file, supplement, &record, before);
+}
+
 void put_summary(FILE *file, const struct supplement *supplement, const char *before)
 {
     struct census census = census_of(supplement);
@@ -79,6 +105,9 @@ void put_summary(FILE *file, const struct supplement *supplement, const char *be
     put_count(file, census.prns, "PRN");
     fprintf(file, "\n%s", before);
     put_count(file, census.layouts, "layout");
+    fprintf(file, "\n%s", before);
+    put_count(file, census.selectors, "selector length");
     putc('\n', file);
     put_missing_prns(file, supplement, before);
+    put_idle_layouts(file, supplement, before);
 }

@@ -6,8 +6,9 @@
 
 #include <stdio.h>
 
-/* Writes the number of bytes and of records by kind, and the PRNs that layouts
- * name and neither table has, each line with this before it. Only for a
+/* Writes the number of bytes and of records by kind, the PRNs that layouts name
+ * and neither table has, and the layouts that can show no item since their
+ * header's selector has another length, each line with this before it. Only for a
  * supplement that the library accepts. */
 void put_summary(FILE *file, const struct supplement *supplement, const char *before);
 

@@ -208,37 +208,47 @@ static bool read_prn(struct cursor *cursor, uint8_t out[PRN_SIZE])
     return take_prn(cursor, out + PRN_NUMBER) && take_slot(cursor, out + PRN_FORM);
 }
 
+/* Whether the next word begins as a hexadecimal number. */
+static bool digit_follows(struct cursor *cursor)
+{
+    next_word(cursor);
+    give_back(cursor);
+    return cursor->length > 0 && hex_digit(*cursor->word) >= 0;
+}
+
 /* "08 6B" with bit H = 0; with H = 1 the target may be left out. */
 static bool read_header(struct cursor *cursor, uint8_t out[2])
 {
     if (!take(cursor, "header") ||
         !take_byte(cursor, "a first byte of two hexadecimal digits", &out[0]))
         return false;
-    next_word(cursor);
-    bool has_target = cursor->length > 0 && hex_digit(*cursor->word) >= 0;
-    give_back(cursor);
-    if (!has_target && (out[0] & BIT_H) != 0)
+    if ((out[0] & BIT_H) != 0 && !digit_follows(cursor))
         return true;
     return take_byte(cursor, "the target, since the first byte has H = 0,", &out[1]);
 }
 
-/* "selector 41" or "no selector". */
-static bool read_selector(struct cursor *cursor, uint8_t out[2])
+/* "selector 41", "selector 41 0C" or "no selector", as length and bytes. */
+static bool read_selector(struct cursor *cursor, uint8_t *length, uint8_t bytes[SELECTOR_MOST])
 {
     next_word(cursor);
     if (is_word(cursor, "no"))
         return take(cursor, "selector");
     if (!is_word(cursor, "selector"))
         return fail(cursor, "\"selector\" or \"no selector\"");
-    out[0] = 1;
-    return take_byte(cursor, "a selector of two hexadecimal digits", &out[1]);
+    do {
+        if (!take_byte(cursor, "a selector byte of two hexadecimal digits", &bytes[*length]))
+            return false;
+        ++*length;
+    } while (*length < SELECTOR_MOST && digit_follows(cursor));
+    return !digit_follows(cursor) ||
+           fail(cursor, "\"prns\" or \"no prns\", since a selector has at most two bytes,");
 }
 
 static bool read_layout(struct cursor *cursor, uint8_t out[LAYOUT_SIZE])
 {
     uint8_t *count = out + LAYOUT_COUNT;
     if (!read_header(cursor, out + LAYOUT_FIRST_BYTE) ||
-        !read_selector(cursor, out + LAYOUT_HAS_SELECTOR))
+        !read_selector(cursor, out + LAYOUT_SELECTOR_LENGTH, out + LAYOUT_SELECTOR))
         return false;
     next_word(cursor);
     if (is_word(cursor, "no"))
@@ -255,6 +265,17 @@ static bool read_layout(struct cursor *cursor, uint8_t out[LAYOUT_SIZE])
     return cursor->length == 0 || fail(cursor, "the end, since a layout has at most 16 PRNs,");
 }
 
+/* "header 08 6A length 2". */
+static bool read_selector_length(struct cursor *cursor, uint8_t out[SELECTOR_SIZE])
+{
+    uint32_t length;
+    if (!read_header(cursor, out + SELECTOR_FIRST_BYTE) || !take(cursor, "length") ||
+        !take_number(cursor, UINT8_MAX, "a length of 0, 1 or 2", &length))
+        return false;
+    out[SELECTOR_LENGTH] = (uint8_t)length;
+    return true;
+}
+
 /* Reads the record that the line's first word names. */
 static bool read_record(struct cursor *cursor, uint8_t out[LAYOUT_SIZE])
 {
@@ -264,14 +285,15 @@ static bool read_record(struct cursor *cursor, uint8_t out[LAYOUT_SIZE])
         bool (*read)(struct cursor *cursor, uint8_t *out);
     } kinds[] = {{"slot", RECORD_SLOT, read_slot},
                  {"prn", RECORD_PRN, read_prn},
-                 {"layout", RECORD_LAYOUT, read_layout}};
+                 {"layout", RECORD_LAYOUT, read_layout},
+                 {"selector", RECORD_SELECTOR, read_selector_length}};
     for (size_t i = 0; i < sizeof kinds / sizeof *kinds; i++) {
         if (!is_word(cursor, kinds[i].word))
             continue;
         out[0] = kinds[i].kind;
         return kinds[i].read(cursor, out) && take_end(cursor);
     }
-    return fail(cursor, "slot, prn or layout");
+    return fail(cursor, "slot, prn, layout or selector");
 }
 
 size_t text_record(const char *line, size_t length, uint8_t out[LAYOUT_SIZE],

@@ -6,11 +6,11 @@
 Random supplements come back from their text byte for byte; the samples show every kind of line;
 JSON loses nothing, and its numbers are as short as can be; fractions are those of their SLOTs, give
 the doubles, and stand in the table under --exact; each code of a SLOT with codes between its states
-is a printed state, marked as none, or Unknown; random frames have the same report on both buses; a
-log under the wrong bus is said to be one exactly if more than half of it is; a log and the stream
-packed from it have the same reports; a stream gives what its records are, however it is cut; the
-guide's example in C shows what the tool shows; frames of a pipe are shown as they come, with
-progress where somebody looks.
+is a printed state, marked as none, or Unknown; selectors of every length choose the layout, and
+items stand behind them; random frames have the same report on both buses; a log under the wrong bus
+is said to be one exactly if more than half of it is; a log and the stream packed from it have the
+same reports; a stream gives what its records are, however it is cut; the guide's example in C shows
+what the tool shows; frames of a pipe are shown as they come, with progress where somebody looks.
 """
 import itertools
 import json
@@ -53,7 +53,8 @@ ROW_KINDS = set(range(NAMES.RAKHUBOLE_ROW_NUMBER, NAMES.RAKHUBOLE_ROW_VERDICT + 
 FRACTION_KINDS = {"negative", "not whole", "reducible"}
 VERDICTS = {NAMES.RAKHUBOLE_CLEAR, NAMES.RAKHUBOLE_FLAGGED, NAMES.RAKHUBOLE_VERDICT_UNKNOWN}
 KEY_SIZES = {FORMAT.RECORD_SLOT: FORMAT.SLOT_KEY_SIZE, FORMAT.RECORD_PRN: FORMAT.PRN_KEY_SIZE,
-             FORMAT.RECORD_LAYOUT: FORMAT.LAYOUT_KEY_SIZE}
+             FORMAT.RECORD_LAYOUT: FORMAT.LAYOUT_KEY_SIZE,
+             FORMAT.RECORD_SELECTOR: FORMAT.SELECTOR_KEY_SIZE}
 # PRNs whose SLOTs have codes between two states: the width, and the states that are printed.
 STATES = {"1808": (6, {0, 1, 2, 4, 8, 0x10, 0x20}),
           "1810": (6, {0, 1, 0x10, *range(0x20, 0x26)}),
@@ -94,22 +95,33 @@ def random_prn(chance):
             + number(edge(chance, 0, 65535), 2))
 
 
+def random_header(chance):
+    """The first byte and target of a record, of a header of three bytes or of one."""
+    first, target = chance.randrange(256), chance.randrange(256)
+    if chance.random() < 0.5:
+        return bytes((first & FORMAT.TYPE_BITS, target))
+    return bytes((first | FORMAT.BIT_H, 0))
+
+
 def random_layout(chance):
-    has_target, count = chance.random() < 0.5, edge(chance, 0, FORMAT.LAYOUT_PRNS)
-    first = chance.randrange(256)
-    first = first & FORMAT.TYPE_BITS if has_target else first | FORMAT.BIT_H
-    selector = bytes((1, chance.randrange(256))) if chance.random() < 0.7 else bytes(2)
+    length, count = chance.randint(0, FORMAT.SELECTOR_MOST), edge(chance, 0, FORMAT.LAYOUT_PRNS)
+    selector = chance.randbytes(length).ljust(FORMAT.SELECTOR_MOST, b"\0")
     prns = b"".join(number(chance.randrange(65536), 2) for _ in range(count))
-    target = chance.randrange(256) if has_target else 0
-    record = bytes((FORMAT.RECORD_LAYOUT, first, target)) + selector + bytes((count,)) + prns
+    record = (bytes((FORMAT.RECORD_LAYOUT,)) + random_header(chance) + bytes((length,)) + selector
+              + bytes((count,)) + prns)
     return record.ljust(FORMAT.LAYOUT_SIZE, b"\0")
+
+
+def random_selector(chance):
+    length = chance.randint(0, FORMAT.SELECTOR_MOST)
+    return bytes((FORMAT.RECORD_SELECTOR,)) + random_header(chance) + bytes((length,))
 
 
 def random_supplement(chance):
     """Records with different keys, of all kinds."""
     records = {}
     for _ in range(chance.randrange(40)):
-        record = chance.choice((random_slot, random_prn, random_layout))(chance)
+        record = chance.choice((random_slot, random_prn, random_layout, random_selector))(chance)
         records.setdefault(record[:KEY_SIZES[record[0]]], record)
     return b"".join(records.values())
 
@@ -331,6 +343,70 @@ def test_states(tool, _samples):
                 wanted = "state" if code in states else "no state" if inside else "Unknown"
                 if state_of(row) != wanted:
                     yield f"code {code:02X} of PRN {prn} is not shown as {wanted}: {row}"
+
+
+def runs_of(most):
+    """All runs of up to so many bytes that are either of two."""
+    return [bytes(run) for count in range(most + 1)
+            for run in itertools.product((0x41, 0x0C), repeat=count)]
+
+
+def selector_headers():
+    """Headers of three bytes and of one, as a record has them, as they are sent, and with the
+    selector length that a record says, None for no record."""
+    for i, length in enumerate((None, *range(FORMAT.SELECTOR_MOST + 1))):
+        yield f"08 {i:02X}", f"48{i:02X}10", length
+        yield f"{i << 5 | 0x18:02X}", f"{i << 5 | 0x18:02X}", length
+
+
+def selector_text(headers, prns):
+    """The lines of a supplement: the selector lengths, and for each header and selector a layout
+    with a PRN of its own."""
+    for header, _, length in headers:
+        if length is not None:
+            yield f"selector header {header} length {length}\n"
+    for (header, selector), prn in prns.items():
+        words = f"selector {selector.hex(' ')}" if selector else "no selector"
+        yield f"prn {prn} UNM-08-101\nlayout header {header} {words} prns {prn}\n"
+
+
+def selector_fault(report, header, selector, rest, prn):
+    """What is wrong in the report of a frame with this selector and these data behind it."""
+    key = bytes.fromhex(header).ljust(2, b"\0") + bytes((len(selector),))
+    if bytes.fromhex(report["layout_sought"]) != key + selector.ljust(FORMAT.SELECTOR_MOST, b"\0"):
+        return "another layout is sought"
+    if len(report["items"]) != 1:
+        return "another layout is used"
+    item, remainder = report["items"][0], report["remainder"]
+    found = (item["prn"], item.get("value", item["word"]),
+             remainder.get("number", remainder["word"]))
+    wanted = (prn, rest[0], 8 * len(rest) - 8) if rest else (prn, "Short", "Short")
+    return None if found == wanted else f"{found} is not {wanted}"
+
+
+def test_selectors(tool, _samples):
+    """The selector is the data up to the length said for the header, 1 if none is said, or what there is; the
+    layout of just that selector is used, and its item is the byte behind it."""
+    headers, selectors = list(selector_headers()), runs_of(FORMAT.SELECTOR_MOST)
+    prns = {key: f"{0xF000 + i:04X}" for i, key in
+            enumerate(itertools.product((header for header, _, _ in headers), selectors))}
+    frames = list(itertools.product(headers, runs_of(FORMAT.SELECTOR_MOST + 1)))
+    with tempfile.TemporaryDirectory() as name:
+        text, supplement, log = (pathlib.Path(name) / n for n in ("text", "supplement", "log"))
+        text.write_text("".join(selector_text(headers, prns)), encoding="ascii")
+        subprocess.run([tool, "compile", text, supplement], stdout=subprocess.DEVNULL, check=True)
+        with open(log, "wb") as file:
+            for (_, sent, _), data in frames:
+                subprocess.run([tool, "send", sent, data.hex()], stdout=file, check=True)
+        reports = objects(tool, supplement, log)
+    if len(reports) != len(frames):
+        yield f"{len(frames)} frames with selectors give {len(reports)} reports"
+    for ((header, _, length), data), report in zip(frames, reports):
+        count = FORMAT.SELECTOR_UNSAID if length is None else length
+        selector, rest = data[:count], data[count:]
+        fault = selector_fault(report, header, selector, rest, prns[header, selector])
+        if fault:
+            yield f"with selector length {length}: {fault}: {report}"
 
 
 def test_buses(tool, samples):
@@ -656,8 +732,8 @@ def test_progress(tool, samples):
 
 
 TESTS = (test_round_trips, test_samples, test_json, test_numbers, test_fractions, test_states,
-         test_buses, test_wrong_bus, test_pack, test_cuts, test_guide, test_as_it_comes,
-         test_progress)
+         test_selectors, test_buses, test_wrong_bus, test_pack, test_cuts, test_guide,
+         test_as_it_comes, test_progress)
 
 
 def main():
@@ -666,10 +742,10 @@ def main():
     for fault in faults:
         print(f"tool-test: {fault}")
     print(f"tool-test: {SUPPLEMENTS} random supplements, {2 * NUMBERS} Numbers, "
-          f"{FRACTIONS} fractions, every code of {len(STATES)} SLOTs, {FRAMES} frames on both "
-          f"buses, every kind of line, JSON, the wrong bus, {2 * PACKS} packed logs, {STREAMS} "
-          "random streams cut at random, the guide's example, pipes and progress: "
-          f"{len(faults)} faults")
+          f"{FRACTIONS} fractions, every code of {len(STATES)} SLOTs, selectors of every length, "
+          f"{FRAMES} frames on both buses, every kind of line, JSON, the wrong bus, {2 * PACKS} "
+          f"packed logs, {STREAMS} random streams cut at random, the guide's example, pipes and "
+          f"progress: {len(faults)} faults")
     return 1 if faults else 0
 
 
