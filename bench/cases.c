@@ -16,12 +16,21 @@ struct supplement {
 
 static uint8_t output[RAKHUBOLE_ROWS_MOST];
 
-/* Header 48 6B 10, selector 41. The first byte has H = 0 and K = 1, as ISO 9141-2
- * asks, so that the messages differ from the frames in the check byte alone. These
- * are not computed: a call that made them would count as one of the case. */
+/* First byte and target as records have them, and both selectors, with a zero for
+ * a byte that is not used. */
+#define HEADER 0x086B
+#define MODE 0x4100
+#define MODE_AND_PID 0x410C
+static const uint16_t two_prns[] = {0x1025, 0x100B};
+
+/* Header 48 6B 10, selector 41, of one 41 0C. The first byte has H = 0 and K = 1, as
+ * ISO 9141-2 asks, so that the messages differ from the frames in the check byte
+ * alone. These are not computed: a call that made them would count as one of the
+ * case. */
 #define TWO_ITEMS 0x48, 0x6B, 0x10, 0x41, 0x65, 0x80
 #define SEVEN_ITEMS 0x48, 0x6B, 0x10, 0x41, 1, 2, 3, 4, 5, 6, 7
 static const uint8_t short_frame[] = {TWO_ITEMS, 0x29}, short_message[] = {TWO_ITEMS, 0xE9};
+static const uint8_t answer_frame[] = {0x48, 0x6B, 0x10, 0x41, 0x0C, 0x65, 0x80, 0x8B};
 static const uint8_t full_frame[] = {SEVEN_ITEMS, 0xA7}, full_message[] = {SEVEN_ITEMS, 0x20};
 
 static void put(struct supplement *supplement, uint32_t number, size_t bytes)
@@ -30,14 +39,24 @@ static void put(struct supplement *supplement, uint32_t number, size_t bytes)
         supplement->bytes[supplement->length++] = (uint8_t)(number >> 8 * (i - 1));
 }
 
-/* The layout of both frames. */
-static void put_layout(struct supplement *supplement, const uint16_t *prns, size_t count)
+/* The layout of frames with that selector. */
+static void put_layout(struct supplement *supplement, uint8_t selector_length, uint16_t selector,
+                       const uint16_t *prns, size_t count)
 {
     put(supplement, RECORD_LAYOUT, 1);
-    put(supplement, 0x086B0141, 4);
+    put(supplement, HEADER, 2);
+    put(supplement, selector_length, 1);
+    put(supplement, selector, 2);
     put(supplement, (uint32_t)count, 1);
     for (size_t i = 0; i < LAYOUT_PRNS; i++)
         put(supplement, i < count ? prns[i] : 0, 2);
+}
+
+static void put_selector(struct supplement *supplement, uint8_t length)
+{
+    put(supplement, RECORD_SELECTOR, 1);
+    put(supplement, HEADER, 2);
+    put(supplement, length, 1);
 }
 
 static void put_prn(struct supplement *supplement, uint16_t prn, uint8_t form, uint8_t width,
@@ -66,8 +85,16 @@ static void put_slot(struct supplement *supplement, uint8_t form, uint8_t width,
 static struct run one_layout(void)
 {
     static struct supplement supplement;
-    static const uint16_t prns[] = {0x1025, 0x100B};
-    put_layout(&supplement, prns, 2);
+    put_layout(&supplement, 1, MODE, two_prns, 2);
+    return (struct run){supplement.bytes, supplement.length};
+}
+
+/* The layout of answers of J1979, selected by test mode and PID. */
+static struct run mode_and_pid(void)
+{
+    static struct supplement supplement;
+    put_selector(&supplement, 2);
+    put_layout(&supplement, 2, MODE_AND_PID, two_prns, 2);
     return (struct run){supplement.bytes, supplement.length};
 }
 
@@ -93,7 +120,7 @@ static struct run prn_records(struct supplement *supplement, size_t count)
         const uint8_t *record = supplement->bytes + PRN_SIZE * item_place(i, count);
         prns[i] = (uint16_t)(record[PRN_NUMBER] << 8 | record[PRN_NUMBER + 1]);
     }
-    put_layout(supplement, prns, ITEMS);
+    put_layout(supplement, 1, MODE, prns, ITEMS);
     return (struct run){supplement->bytes, supplement->length};
 }
 
@@ -111,7 +138,7 @@ static struct run slot_records(struct supplement *supplement, size_t count)
         prns[i] = (uint16_t)(0x4000 + i);
         put_prn(supplement, prns[i], FORM_UNM, 8, (uint16_t)(1000 + place * 5003 % 4096));
     }
-    put_layout(supplement, prns, ITEMS);
+    put_layout(supplement, 1, MODE, prns, ITEMS);
     return (struct run){supplement->bytes, supplement->length};
 }
 
@@ -148,12 +175,14 @@ const struct bench_case *bench_cases(void)
     if (cases[0].name)
         return cases;
     struct run two_items = {short_frame, sizeof short_frame};
+    struct run answer = {answer_frame, sizeof answer_frame};
     struct run seven_items = {full_frame, sizeof full_frame};
     struct run iso_two_items = {short_message, sizeof short_message};
     struct run iso_seven_items = {full_message, sizeof full_message};
     struct run layout = one_layout();
     const struct bench_case made[CASE_COUNT] = {
         {"report, one layout", report(layout, two_items), 1.0},
+        {"report, selector of 2 bytes", report(mode_and_pid(), answer), 1.0},
         {"report, 100 PRN records", report(prn_records(&small, 100), seven_items), 1.0},
         {"report, 2,300 PRN records", report(prn_records(&full_of_prns, 2300), seven_items), 0.1},
         {"report, 770 SLOT records", report(slot_records(&full_of_slots, 770), seven_items), 0.1},

@@ -4,7 +4,7 @@
 
 #include "calls.h"
 
-#define CASE_COUNT 12
+#define CASE_COUNT 13
 
 struct bench_case {
     const char *name;

@@ -60,7 +60,12 @@ bool find_prn(const struct supplement *supplement, uint16_t prn, struct prn_row 
 bool find_slot(const struct supplement *supplement, const struct prn_row *prn,
                struct slot_row *slot);
 
-/* The layout record for a frame, or NULL. */
-const uint8_t *find_layout(const struct supplement *supplement, const struct frame *frame);
+/* How many of a frame's data are its selector: as many as the supplement says for
+ * its header, or all if there are fewer. */
+size_t selector_length(const struct supplement *supplement, const struct frame *frame);
+
+/* The layout record for a frame whose selector is so long, or NULL. */
+const uint8_t *find_layout(const struct supplement *supplement, const struct frame *frame,
+                           size_t selector);
 
 #endif

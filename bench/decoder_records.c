@@ -54,18 +54,22 @@ static size_t record_length(uint8_t kind)
     switch (kind) {
     case RECORD_SLOT: return SLOT_SIZE;
     case RECORD_PRN: return PRN_SIZE;
-    default: return LAYOUT_SIZE;
+    case RECORD_LAYOUT: return LAYOUT_SIZE;
+    default: return SELECTOR_SIZE;
     }
 }
 
-/* A SLOT's key and a layout's are equally long. */
+/* Each kind compares as many bytes as it has, a number that the compiler knows. */
 static bool same_key(const uint8_t *record, const uint8_t *key)
 {
     if (record[0] != key[0])
         return false;
-    if (record[0] == RECORD_PRN)
-        return memcmp(record + 1, key + 1, PRN_KEY_SIZE - 1) == 0;
-    return memcmp(record + 1, key + 1, SLOT_KEY_SIZE - 1) == 0;
+    switch (record[0]) {
+    case RECORD_SLOT: return memcmp(record + 1, key + 1, SLOT_KEY_SIZE - 1) == 0;
+    case RECORD_PRN: return memcmp(record + 1, key + 1, PRN_KEY_SIZE - 1) == 0;
+    case RECORD_LAYOUT: return memcmp(record + 1, key + 1, LAYOUT_KEY_SIZE - 1) == 0;
+    default: return memcmp(record + 1, key + 1, SELECTOR_KEY_SIZE - 1) == 0;
+    }
 }
 
 /* The first of those whole records that has that kind and key, or NULL. */
@@ -87,19 +91,32 @@ static bool limits_in_order(uint8_t form, uint32_t lowest, uint32_t highest)
     return form == FORM_SNM ? as_signed(lowest) <= as_signed(highest) : lowest <= highest;
 }
 
-static bool layout_fits(const uint8_t *record)
+static bool header_fits(uint8_t first_byte, uint8_t target)
 {
-    uint8_t first_byte = record[LAYOUT_FIRST_BYTE], target = record[LAYOUT_TARGET];
-    uint8_t present = record[LAYOUT_HAS_SELECTOR], selector = record[LAYOUT_SELECTOR];
-    uint8_t count = record[LAYOUT_COUNT];
-    if (first_byte & BIT_H ? target != 0 : (first_byte & PRIORITY_BITS) != 0)
-        return false;
-    if (present > 1 || (present == 0 && selector != 0) || count > LAYOUT_PRNS)
-        return false;
-    for (size_t i = LAYOUT_PRN_LIST + 2 * (size_t)count; i < LAYOUT_SIZE; i++)
-        if (record[i] != 0)
+    return first_byte & BIT_H ? target == 0 : (first_byte & PRIORITY_BITS) == 0;
+}
+
+static bool is_zero(const uint8_t *start, const uint8_t *end)
+{
+    for (const uint8_t *byte = start; byte < end; byte++)
+        if (*byte != 0)
             return false;
     return true;
+}
+
+static bool layout_fits(const uint8_t *record)
+{
+    size_t length = record[LAYOUT_SELECTOR_LENGTH], count = record[LAYOUT_COUNT];
+    return header_fits(record[LAYOUT_FIRST_BYTE], record[LAYOUT_TARGET]) &&
+           length <= SELECTOR_MOST && count <= LAYOUT_PRNS &&
+           is_zero(record + LAYOUT_SELECTOR + length, record + LAYOUT_COUNT) &&
+           is_zero(record + LAYOUT_PRN_LIST + 2 * count, record + LAYOUT_SIZE);
+}
+
+static bool selector_fits(const uint8_t *record)
+{
+    return header_fits(record[SELECTOR_FIRST_BYTE], record[SELECTOR_TARGET]) &&
+           record[SELECTOR_LENGTH] <= SELECTOR_MOST;
 }
 
 static bool fields_fit(const uint8_t *record)
@@ -111,7 +128,8 @@ static bool fields_fit(const uint8_t *record)
                limits_in_order(record[SLOT_FORM], number_32(record + SLOT_LOWEST),
                                number_32(record + SLOT_HIGHEST));
     case RECORD_PRN: return form_and_width_fit(record[PRN_FORM], record[PRN_WIDTH]);
-    default: return layout_fits(record);
+    case RECORD_LAYOUT: return layout_fits(record);
+    default: return selector_fits(record);
     }
 }
 
@@ -128,7 +146,7 @@ static bool key_in_sae(const uint8_t *record)
 static unsigned record_fault(const uint8_t *supplement, size_t length, size_t place)
 {
     const uint8_t *record = supplement + place;
-    if (record[0] < RECORD_SLOT || record[0] > RECORD_LAYOUT)
+    if (record[0] < RECORD_SLOT || record[0] > RECORD_SELECTOR)
         return RAKHUBOLE_RECORD_KIND_UNKNOWN;
     if (length - place < record_length(record[0]))
         return RAKHUBOLE_RECORD_CUT;
@@ -199,15 +217,29 @@ bool find_slot(const struct supplement *supplement, const struct prn_row *prn,
     return true;
 }
 
-const uint8_t *find_layout(const struct supplement *supplement, const struct frame *frame)
+/* The first byte and target under which a supplement has a frame's header. */
+static void put_header(const struct frame *frame, uint8_t fields[2])
 {
     bool one_byte = frame->header_length == 1;
-    const uint8_t key[LAYOUT_KEY_SIZE] = {
-        RECORD_LAYOUT,
-        one_byte ? frame->header[0] : (uint8_t)(frame->header[0] & ~PRIORITY_BITS),
-        one_byte ? 0 : frame->header[1],
-        frame->data_length > 0,
-        frame->data_length > 0 ? frame->data[0] : 0,
-    };
+    fields[0] = one_byte ? frame->header[0] : (uint8_t)(frame->header[0] & ~PRIORITY_BITS);
+    fields[1] = one_byte ? 0 : frame->header[1];
+}
+
+size_t selector_length(const struct supplement *supplement, const struct frame *frame)
+{
+    uint8_t key[SELECTOR_KEY_SIZE] = {RECORD_SELECTOR};
+    put_header(frame, key + SELECTOR_FIRST_BYTE);
+    const uint8_t *record = find_record(supplement->records, supplement->length, key);
+    size_t length = record ? record[SELECTOR_LENGTH] : SELECTOR_UNSAID;
+    return length < frame->data_length ? length : frame->data_length;
+}
+
+const uint8_t *find_layout(const struct supplement *supplement, const struct frame *frame,
+                           size_t selector)
+{
+    uint8_t key[LAYOUT_KEY_SIZE] = {RECORD_LAYOUT};
+    put_header(frame, key + LAYOUT_FIRST_BYTE);
+    key[LAYOUT_SELECTOR_LENGTH] = (uint8_t)selector;
+    memcpy(key + LAYOUT_SELECTOR, frame->data, selector);
     return find_record(supplement->records, supplement->length, key);
 }

@@ -182,9 +182,8 @@ static void report_remainder(struct report *report, bool has_layout)
     }
 }
 
-static void make_report(struct report *report, const struct frame *frame)
+static void make_report(struct report *report, const struct frame *frame, const uint8_t *layout)
 {
-    const uint8_t *layout = find_layout(report->supplement, frame);
     for (size_t i = 0; layout && i < layout[LAYOUT_COUNT]; i++)
         report_item(report, number_16(layout + LAYOUT_PRN_LIST + 2 * i));
     report_remainder(report, layout != NULL);
@@ -203,12 +202,13 @@ static void make_report(struct report *report, const struct frame *frame)
 static uint64_t report_parts(const struct supplement *supplement, const struct frame *frame,
                              uint8_t *out, size_t out_length)
 {
-    struct report report = {.supplement = supplement};
-    if (frame->data_length > 0) {
-        report.data = frame->data + 1;
-        report.bits = 8 * (frame->data_length - 1);
-    }
-    make_report(&report, frame);
+    size_t selector = selector_length(supplement, frame);
+    struct report report = {
+        .supplement = supplement,
+        .data = frame->data + selector,
+        .bits = 8 * (frame->data_length - selector),
+    };
+    make_report(&report, frame, find_layout(supplement, frame, selector));
     if (out_length < report.length)
         return RAKHUBOLE_OUT_TOO_SHORT;
     memcpy(out, report.rows, report.length);
