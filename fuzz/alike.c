@@ -6,8 +6,10 @@
  * The cases are the committed vectors, each with several lengths of output, and
  * so many random ones from a fixed seed: mostly good frames under supplements
  * that have a layout for them, parts of mostly good streams, and near misses.
- * Calls that the earlier archive lacks are left out, their vectors counted. The
- * first case that differs is printed, and the status is then 1. */
+ * Calls that the earlier archive lacks are left out, their vectors counted. One
+ * that knows no kind 4 is lent its own form of each supplement, and cases that it
+ * has none for are left out and counted. The first case that differs is printed,
+ * and the status is then 1. */
 #include "calls.h"
 #include "classes.h"
 #include "decoder_stream.h"
@@ -50,6 +52,7 @@ static const struct calls before_calls = {
 };
 static const struct calls *const both[] = {&before_calls, &archive_calls};
 static const char *const names[] = {"before", "now"};
+enum { BEFORE, NOW };
 
 static unsigned long cases, differences;
 /* Vectors of calls that the earlier archive lacks. */
@@ -67,6 +70,93 @@ static bool is_shared(enum call call)
     return had[call];
 }
 
+/* ---- Supplements without kind 4 ---- */
+
+/* Whether the earlier archive knows no kind 4. Its layouts have a selector of at most
+ * one byte, and end a byte earlier. */
+static bool is_form_older;
+/* Cases with a supplement that has no such form. */
+static unsigned long left_out;
+
+/* What is left away of a layout. */
+#define SECOND_BYTE (LAYOUT_SELECTOR + 1)
+
+static bool is_older(const struct calls *calls)
+{
+    static const uint8_t kind = RECORD_SELECTOR;
+    return calls->check(&kind, 1) == RAKHUBOLE_RECORD_KIND_UNKNOWN;
+}
+
+/* Whether the older form is other bytes; a supplement too long is so in any form. */
+static bool is_translated(const struct request *request)
+{
+    return is_form_older && (request->call == CALL_CHECK || is_report(request->call)) &&
+           request->in[0].length <= SUPPLEMENT_MOST;
+}
+
+/* Whether the record says the same there. Of a cut one no field is looked at. */
+static bool has_older_form(const uint8_t *record, size_t length)
+{
+    if (record[0] == RECORD_LAYOUT && length == LAYOUT_SIZE)
+        return record[LAYOUT_SELECTOR_LENGTH] != SELECTOR_MOST && record[SECOND_BYTE] == 0;
+    return record[0] != RECORD_SELECTOR;
+}
+
+static void put_older_record(struct draft *older, const uint8_t *record, size_t length)
+{
+    for (size_t i = 0; i < length; i++)
+        if (record[0] != RECORD_LAYOUT || i != SECOND_BYTE)
+            put(older, record[i], 1);
+}
+
+/* False if a record has no such form. */
+static bool put_older_form(struct draft *older, const struct run *supplement)
+{
+    older->length = 0;
+    for (size_t place = 0, length; place < supplement->length; place += length) {
+        const uint8_t *record = supplement->bytes + place;
+        length = record_length(record, supplement->length - place);
+        if (!has_older_form(record, length))
+            return false;
+        put_older_record(older, record, length);
+    }
+    return true;
+}
+
+/* The answer for that form: the place of a fault lies a byte before for each layout
+ * before it. */
+static uint64_t older_answer(const struct run *supplement, uint64_t answer)
+{
+    size_t fault = RAKHUBOLE_REFUSAL(answer) ? RAKHUBOLE_PLACE(answer) : 0;
+    uint64_t layouts = 0;
+    for (size_t place = 0; place < fault && place < supplement->length;) {
+        const uint8_t *record = supplement->bytes + place;
+        layouts += record[0] == RECORD_LAYOUT;
+        place += record_length(record, supplement->length - place);
+    }
+    return answer - (layouts << 8);
+}
+
+/* Makes the records ones that have such a form, as far as they are whole. */
+static void keep_to_older_form(struct draft *run)
+{
+    size_t kept = 0;
+    for (size_t place = 0, length; place < run->length; place += length) {
+        uint8_t *record = run->bytes + place;
+        length = record_length(record, run->length - place);
+        if (record[0] == RECORD_SELECTOR)
+            continue;
+        if (record[0] == RECORD_LAYOUT && length == LAYOUT_SIZE) {
+            record[SECOND_BYTE] = 0;
+            if (record[LAYOUT_SELECTOR_LENGTH] == SELECTOR_MOST)
+                record[LAYOUT_SELECTOR_LENGTH] = 1;
+        }
+        memmove(run->bytes + kept, record, length);
+        kept += length;
+    }
+    run->length = kept;
+}
+
 /* ---- Comparing ---- */
 
 /* All that is lent to a call, the output last, guard bytes around each. */
@@ -76,34 +166,39 @@ struct arena {
     uint8_t bytes[MOST_RUNS * MOST_LENT_BYTES + MOST_OUT + (MOST_LENT + 1) * GUARD_BYTES];
 };
 
-static struct arena lent, left[2];
+/* As they were lent to each archive, and as it left them. */
+static struct arena lent[2], left[2];
 
-static void lend_all(const struct request *request)
+/* The bytes beside the runs hang on how far the end is, so that those of the output
+ * are the same for both archives. */
+static void lend_all(struct arena *arena, const struct request *request)
 {
-    lent.length = GUARD_BYTES;
+    arena->length = GUARD_BYTES;
     for (size_t i = 0; i < MOST_LENT; i++) {
-        lent.places[i] = lent.length;
-        lent.length += (i < MOST_RUNS ? request->in[i].length : request->out_length) + GUARD_BYTES;
+        size_t length = i < MOST_RUNS ? request->in[i].length : request->out_length;
+        arena->places[i] = arena->length;
+        arena->length += length + GUARD_BYTES;
     }
-    for (size_t at = 0; at < lent.length; at++)
-        lent.bytes[at] = (uint8_t)(0x5A + 7 * at);
+    for (size_t at = 0; at < arena->length; at++)
+        arena->bytes[at] = (uint8_t)(0x5A + 7 * (arena->length - at));
     for (size_t i = 0; i < MOST_RUNS; i++)
         if (request->in[i].length)
-            memcpy(lent.bytes + lent.places[i], request->in[i].bytes, request->in[i].length);
+            memcpy(arena->bytes + arena->places[i], request->in[i].bytes, request->in[i].length);
 }
 
-/* The answer of a call that is lent a copy. Empty runs are NULL in turns. */
-static uint64_t answer_in(struct arena *arena, const struct calls *calls,
-                          const struct request *request)
+/* The answer of an archive that is lent a copy. Empty runs are NULL in turns. */
+static uint64_t answer_by(int who, const struct request *request)
 {
     struct request mine = *request;
     bool has_null = cases % 2 == 0;
-    memcpy(arena->bytes, lent.bytes, lent.length);
+    uint8_t *bytes = left[who].bytes;
+    lend_all(&lent[who], request);
+    memcpy(bytes, lent[who].bytes, lent[who].length);
     for (size_t i = 0; i < MOST_RUNS; i++)
         mine.in[i].bytes =
-            has_null && mine.in[i].length == 0 ? NULL : arena->bytes + lent.places[i];
-    mine.out = has_null && mine.out_length == 0 ? NULL : arena->bytes + lent.places[MOST_RUNS];
-    return answer_of(calls, &mine);
+            has_null && mine.in[i].length == 0 ? NULL : bytes + lent[who].places[i];
+    mine.out = has_null && mine.out_length == 0 ? NULL : bytes + lent[who].places[MOST_RUNS];
+    return answer_of(both[who], &mine);
 }
 
 /* Whether the length of the output is the caller's choice. */
@@ -126,18 +221,28 @@ static size_t result_length(const struct request *request)
 {
     struct request mine = *request;
     mine.out_length = MOST_OUT;
-    lend_all(&mine);
-    uint64_t answer = answer_in(&left[0], &before_calls, &mine);
+    uint64_t answer = answer_by(NOW, &mine);
     return RAKHUBOLE_REFUSAL(answer) == 0 ? written_by(request->call, answer) : 0;
 }
 
-/* Both leave the same bytes, and all but the output as they were. */
+static const uint8_t *output_of(int who)
+{
+    return left[who].bytes + lent[who].places[MOST_RUNS];
+}
+
+/* All but the output is as it was lent. */
+static bool is_rest_untouched(int who, const struct request *request)
+{
+    size_t out = lent[who].places[MOST_RUNS], end = out + request->out_length;
+    return memcmp(left[who].bytes, lent[who].bytes, out) == 0 &&
+           memcmp(left[who].bytes + end, lent[who].bytes + end, lent[who].length - end) == 0;
+}
+
+/* Both leave the same output, and nothing else otherwise than it was. */
 static bool is_memory_alike(const struct request *request)
 {
-    size_t out = lent.places[MOST_RUNS], end = out + request->out_length;
-    return memcmp(left[0].bytes, left[1].bytes, lent.length) == 0 &&
-           memcmp(left[0].bytes, lent.bytes, out) == 0 &&
-           memcmp(left[0].bytes + end, lent.bytes + end, lent.length - end) == 0;
+    return memcmp(output_of(BEFORE), output_of(NOW), request->out_length) == 0 &&
+           is_rest_untouched(BEFORE, request) && is_rest_untouched(NOW, request);
 }
 
 static void show_run(const char *name, const uint8_t *run, size_t length)
@@ -151,9 +256,9 @@ static void show_run(const char *name, const uint8_t *run, size_t length)
 /* The first byte outside the output that is not as it was lent. */
 static void show_touched(const struct request *request, int who)
 {
-    size_t out = lent.places[MOST_RUNS], end = out + request->out_length;
-    for (size_t at = 0; at < lent.length; at++) {
-        if ((at >= out && at < end) || left[who].bytes[at] == lent.bytes[at])
+    size_t out = lent[who].places[MOST_RUNS], end = out + request->out_length;
+    for (size_t at = 0; at < lent[who].length; at++) {
+        if ((at >= out && at < end) || left[who].bytes[at] == lent[who].bytes[at])
             continue;
         printf("  %s touches a byte %ld from the start of the output\n", names[who],
                (long)at - (long)out);
@@ -169,20 +274,28 @@ static void show_case(const struct request *request, const char *where, const ui
     for (size_t i = 0; i < runs_of(request->call); i++)
         show_run("run", request->in[i].bytes, request->in[i].length);
     for (int who = 0; who < 2; who++) {
-        show_run(names[who], left[who].bytes + lent.places[MOST_RUNS], request->out_length);
+        show_run(names[who], output_of(who), request->out_length);
         show_touched(request, who);
     }
 }
 
 static void try_case(const struct request *request, const char *where)
 {
-    uint64_t answers[2];
+    static struct draft older;
+    const struct run *supplement = &request->in[0];
+    bool is_other = is_translated(request);
+    struct request earlier = *request;
+    if (is_other && !put_older_form(&older, supplement)) {
+        left_out++;
+        return;
+    }
+    if (is_other)
+        earlier.in[0] = (struct run){older.bytes, older.length};
     cases++;
-    lend_all(request);
-    for (int who = 0; who < 2; who++)
-        answers[who] = answer_in(&left[who], both[who], request);
-    if (answers[0] == answers[1] && is_memory_alike(request))
-        count_classes(request, answers[1], left[1].bytes + lent.places[MOST_RUNS]);
+    const uint64_t answers[] = {answer_by(BEFORE, &earlier), answer_by(NOW, request)};
+    uint64_t wanted = is_other ? older_answer(supplement, answers[NOW]) : answers[NOW];
+    if (answers[BEFORE] == wanted && is_memory_alike(request))
+        count_classes(request, answers[NOW], output_of(NOW));
     else if (differences++ == 0)
         show_case(request, where, answers);
 }
@@ -312,9 +425,25 @@ static void draft_layout(uint8_t flags, bool for_messages, struct draft *run)
     bytes[0] = RECORD_LAYOUT;
     if (for_messages)
         bytes[LAYOUT_FIRST_BYTE] = fitting_first_byte(bytes[LAYOUT_FIRST_BYTE]);
-    for (size_t i = LAYOUT_PRN_LIST; flags % 4 && i < sizeof bytes; i++)
+    for (size_t i = LAYOUT_COUNT; flags % 4 && i < sizeof bytes; i++)
         bytes[i] = (uint8_t)(bytes[i] / 4 * 4 + 1 + bytes[i] % 2);
     draft_supplement(&feed, run);
+}
+
+/* The length for the header of the last layout. */
+static void draft_selector(struct draft *run)
+{
+    static const uint8_t bytes[] = {SELECTOR_OF_LAYOUT, UINT8_MAX};
+    struct feed feed = {bytes, sizeof bytes};
+    draft_supplement(&feed, run);
+}
+
+static void mend_form(bool is_mended, struct draft *run)
+{
+    if (is_form_older)
+        keep_to_older_form(run);
+    if (is_mended)
+        mend(run);
 }
 
 /* Records of all kinds, then a layout; three in four supplements are good. */
@@ -324,11 +453,10 @@ static void draft_records(struct feed *feed, bool for_messages, struct draft *ru
     struct feed records = {bytes, sizeof bytes};
     fill_random(bytes, sizeof bytes);
     draft_supplement(&records, run);
-    if (flags / 4 % 4)
-        mend(run);
+    mend_form(flags / 4 % 4, run);
     draft_layout(flags, for_messages, run);
-    if (flags / 4 % 4)
-        mend(run);
+    draft_selector(run);
+    mend_form(flags / 4 % 4, run);
     miss(feed, run);
 }
 
@@ -441,6 +569,7 @@ int main(int count, char **words)
         return 2;
     }
     unsigned long wanted = strtoul(words[2], NULL, 10);
+    is_form_older = is_older(&before_calls);
     size_t vectors = visit_vectors(words[1], try_vector, NULL);
     printf("%zu vectors, %lu cases of them; %lu random cases\n", vectors - skipped, cases, wanted);
     if (skipped)
@@ -449,6 +578,9 @@ int main(int count, char **words)
         return 1;
     try_random_cases(wanted);
     show_calls();
+    if (is_form_older)
+        printf("%lu cases left out: the earlier archive has no form for their supplements\n",
+               left_out);
     printf("%lu cases, %lu differ\n", cases, differences);
     return differences ? 1 : 0;
 }
