@@ -53,7 +53,7 @@ static void add_layout(uint8_t first_byte)
     layout[0] = RECORD_LAYOUT;
     layout[LAYOUT_FIRST_BYTE] = one_byte ? first_byte : (uint8_t)(first_byte & ~PRIORITY_BITS);
     layout[LAYOUT_TARGET] = one_byte ? 0 : TARGET;
-    layout[LAYOUT_HAS_SELECTOR] = 1;
+    layout[LAYOUT_SELECTOR_LENGTH] = 1;
     layout[LAYOUT_SELECTOR] = SELECTOR;
     layout[LAYOUT_COUNT] = sizeof prns / 2;
     memcpy(layout + LAYOUT_PRN_LIST, prns, sizeof prns);

@@ -1,5 +1,6 @@
 #include "classes.h"
 
+#include "decoder_parts.h"
 #include "decoder_stream.h"
 #include "draft.h"
 #include "format.h"
@@ -8,7 +9,8 @@
 
 #include <stdio.h>
 
-/* Behind Unknown: of a report's room, then of its Numbers; then of a stream. */
+/* Behind Unknown: of a report's room, of its Numbers, of the selector under which it
+ * found a layout; then of a stream. */
 enum word {
     REFUSED,
     SUM_BEFORE,
@@ -23,6 +25,8 @@ enum word {
     DIVISOR,
     DIVISOR_OVER,
     END_OF_FIELD,
+    SELECTOR,
+    SELECTOR_SHORT,
     FRAMES_TOLD,
     TOLD_WITHIN,
     STATE,
@@ -32,7 +36,8 @@ enum word {
 static const char *const words[WORDS] = {
     "refused", "3 before", "kind", "verdict", "row", "Unknown", "room left", "room short by",
     "whole number under", "its bits over", "divisor", "divisor over", "end of a field",
-    "frames told", "told from within a record", "state", "place back at",
+    "selector of", "selector short by", "frames told", "told from within a record", "state",
+    "place back at",
 };
 
 /* The ends of a Number's fields. The least whole number is that of an SNM, the
@@ -81,11 +86,13 @@ enum {
 /* A whole number of more bits than this would be cut by a caller that keeps it
  * in a word of so many. */
 #define WORD_BITS 32
-/* Just enough room and one byte less; Numbers of each sign, size and divisor. */
-#define ROOMS_AND_NUMBERS                                                                        \
+/* Just enough room and one byte less; Numbers of each sign, size and divisor;
+ * layouts for selectors of each length, and for those that the data cut short. */
+#define OF_REPORT                                                                                \
     [ROOM_LEFT] = ONE(0), [ROOM_SHORT] = ONE(1), [WHOLE_UNDER] = ONE(0),                         \
     [WHOLE_BITS_OVER] = ONE(WORD_BITS), [DIVISOR] = ONE(1), [DIVISOR_OVER] = ONE(1),             \
-    [END_OF_FIELD] = SPAN(LEAST_WHOLE, MOST_DIVISOR)
+    [END_OF_FIELD] = SPAN(LEAST_WHOLE, MOST_DIVISOR), [SELECTOR] = SPAN(0, SELECTOR_MOST),       \
+    [SELECTOR_SHORT] = SPAN(1, SELECTOR_MOST)
 
 #define STATES SPAN(BETWEEN_RECORDS, NOT_ZERO_BEHIND_HELD)
 /* What a record gives that was begun in an earlier part: a frame, or 61. */
@@ -105,7 +112,7 @@ static const uint64_t wanted[][WORDS] = {
                      [VERDICT] = VERDICTS,
                      [ROW] = ROWS,
                      [UNKNOWN] = UNKNOWNS,
-                     ROOMS_AND_NUMBERS},
+                     OF_REPORT},
     [CALL_ISO_READ] = {[REFUSED] = MESSAGE_REFUSALS,
                        [SUM_BEFORE] = ONE(RAKHUBOLE_FIRST_BYTE_WRONG)},
     [CALL_ISO_WRITE] = {[REFUSED] = MESSAGE_WRITE_REFUSALS},
@@ -114,7 +121,7 @@ static const uint64_t wanted[][WORDS] = {
                          [VERDICT] = VERDICTS,
                          [ROW] = ROWS,
                          [UNKNOWN] = UNKNOWNS & ~ONE(RAKHUBOLE_UNKNOWN_RESPONSE),
-                         ROOMS_AND_NUMBERS},
+                         OF_REPORT},
     [CALL_STREAM_READ] = {READ_STREAM, [STATE] = STATES},
     [CALL_STREAM_ADVANCE] = {[STATE] = STATES, [PLACE_BACK] = ONE(0)},
     [CALL_STREAM_END] = {[REFUSED] = ONE(RAKHUBOLE_STREAM_CUT), [STATE] = STATES},
@@ -200,12 +207,46 @@ static bool is_one_short(const struct request *request, unsigned refusal)
     return RAKHUBOLE_REFUSAL(answer_of(&judge_calls, &longer)) == 0;
 }
 
+struct selector selector_of(const struct request *request)
+{
+    const struct run *first = &request->in[1], *response = &request->in[2];
+    struct supplement supplement = {request->in[0].bytes, request->in[0].length};
+    struct frame frame;
+    if (request->call == CALL_REPORT)
+        read_frame(first->bytes, first->length, response->bytes, response->length, &frame);
+    else
+        read_message(first->bytes, first->length, &frame);
+    size_t length = selector_length(&supplement, &frame);
+    bool has_layout = find_layout(&supplement, &frame, length) != NULL;
+    frame.data_length = SELECTOR_MOST;
+    return (struct selector){length, selector_length(&supplement, &frame), has_layout};
+}
+
+/* In branches too; the length is the one that was asked for, or short of it. */
+static void count_selector(struct tally *tally, struct selector selector)
+{
+    size_t missing = selector.asked - selector.length;
+    if (missing == 0 && selector.length == 0)
+        tally->counts[SELECTOR][0]++;
+    if (missing == 0 && selector.length == 1)
+        tally->counts[SELECTOR][1]++;
+    if (missing == 0 && selector.length == 2)
+        tally->counts[SELECTOR][2]++;
+    if (missing == 1)
+        tally->counts[SELECTOR_SHORT][1]++;
+    if (missing == 2)
+        tally->counts[SELECTOR_SHORT][2]++;
+}
+
 static void count_report(struct tally *tally, const struct request *request, uint64_t answer,
                          const uint8_t *out)
 {
     size_t length = RAKHUBOLE_ROWS_LENGTH(answer);
+    struct selector selector = selector_of(request);
     if (length == request->out_length)
         tally->counts[ROOM_LEFT][0]++;
+    if (selector.has_layout)
+        count_selector(tally, selector);
     count_rows(tally, out, length);
 }
 

@@ -18,6 +18,15 @@ struct fraction {
 };
 struct fraction fraction_of(const uint8_t *body);
 
+/* Of an accepted report: how long the selector of its frame or message is, how long
+ * the supplement wants it, and whether it has the layout. */
+struct selector {
+    size_t length;
+    size_t asked;
+    bool has_layout;
+};
+struct selector selector_of(const struct request *request);
+
 /* Counts a request with the answer and output of the judge. */
 void count_classes(const struct request *request, uint64_t answer, const uint8_t *out);
 

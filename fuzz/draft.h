@@ -60,8 +60,13 @@ void mend_stream(struct draft *stream);
 /* Of a writer: the header has the length that the feed says, fitting or not. */
 #define ANY_HEADER_LENGTH 1
 
-/* A supplement, as fuzz/supplement.c says. */
+/* A supplement, as fuzz/supplement.c says. This step puts a selector record for the
+ * header of a layout; the byte behind it says which, at most the last. */
+#define SELECTOR_OF_LAYOUT 0x14
 void draft_supplement(struct feed *feed, struct draft *supplement);
+
+/* The bytes of a record, and no more than are left. */
+size_t record_length(const uint8_t *record, size_t left);
 
 /* Takes out each record with a fault, so that the supplement is accepted. */
 void mend(struct draft *supplement);

@@ -25,6 +25,9 @@ enum fault {
     TOO_FEW_AS_MISSING,
     FRACTION_REDUCED,
     SIGN_LOST,
+    SELECTOR_LENGTHS_IGNORED,
+    SELECTOR_NOT_CUT,
+    SECOND_BYTE_NOT_IN_KEY,
     /* of a report on ISO 9141-2 */
     FIRST_BYTE_BEFORE_SUM,
     WRITTEN_BEHIND_ROWS,
@@ -93,11 +96,52 @@ static void spoil_fractions(enum fault fault, uint8_t *rows, size_t length)
     }
 }
 
+/* Every header has a selector of one byte; or layouts that differ in the second byte
+ * alone are one, that of the frame. */
+static void spoil_records(enum fault fault, struct draft *records, uint8_t second_byte)
+{
+    for (size_t place = 0, length; place < records->length; place += length) {
+        uint8_t *record = records->bytes + place;
+        length = record_length(record, records->length - place);
+        if (fault == SELECTOR_LENGTHS_IGNORED && record[0] == RECORD_SELECTOR)
+            record[SELECTOR_LENGTH] = SELECTOR_UNSAID;
+        if (fault == SECOND_BYTE_NOT_IN_KEY && record[0] == RECORD_LAYOUT &&
+            record[LAYOUT_SELECTOR_LENGTH] == SELECTOR_MOST)
+            record[LAYOUT_SELECTOR + 1] = second_byte;
+    }
+}
+
+/* The supplement as a decoder with such a fault takes it. With a selector as long as
+ * it is asked for, though the data are shorter, none of its layouts is found. */
+static struct run spoiled_supplement(const struct request *request)
+{
+    static struct draft mine;
+    const struct run *first = &request->in[1], *response = &request->in[2];
+    struct run records = request->in[0];
+    uint64_t read = decoder_read(first->bytes, first->length, response->bytes, response->length);
+    if (decoder_check(records.bytes, records.length) != 0 || RAKHUBOLE_REFUSAL(read) != 0)
+        return records;
+    struct selector selector = selector_of(request);
+    if (fault() == SELECTOR_NOT_CUT)
+        return selector.length < selector.asked ? (struct run){NULL, 0} : records;
+    for (mine.length = 0; mine.length < records.length; mine.length++)
+        mine.bytes[mine.length] = records.bytes[mine.length];
+    bool has_second = selector.length == SELECTOR_MOST;
+    spoil_records(fault(), &mine, has_second ? first->bytes[RAKHUBOLE_READ_HEADER(read) + 1] : 0);
+    return (struct run){mine.bytes, mine.length};
+}
+
 static uint64_t faulty_report(const uint8_t *supplement, size_t supplement_length,
                               const uint8_t *first, size_t first_length, const uint8_t *response,
                               size_t response_length, uint8_t *out, size_t out_length)
 {
-    uint64_t answer = decoder_report(supplement, supplement_length, first, first_length, response,
+    struct run records = {supplement, supplement_length};
+    const struct request request = {
+        CALL_REPORT, {records, {first, first_length}, {response, response_length}}, out, out_length,
+    };
+    if (fault() >= SELECTOR_LENGTHS_IGNORED && fault() <= SECOND_BYTE_NOT_IN_KEY)
+        records = spoiled_supplement(&request);
+    uint64_t answer = decoder_report(records.bytes, records.length, first, first_length, response,
                                      response_length, out, out_length);
     int accepted = RAKHUBOLE_REFUSAL(answer) == 0;
     switch (fault()) {

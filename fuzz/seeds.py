@@ -21,9 +21,10 @@ SEALED = 3                        # on ISO 9141-2 fitted too
 SEALED_AND_MENDED = 7
 MENDED = 4
 ANY_STATE = 1
-RAW_BYTES = 4                     # the other steps are the kinds of records
+RAW_BYTES = 0x17                  # damage; the other steps are the kinds of records
 RECORD_SIZES = {FORMAT.RECORD_SLOT: FORMAT.SLOT_SIZE, FORMAT.RECORD_PRN: FORMAT.PRN_SIZE,
-                FORMAT.RECORD_LAYOUT: FORMAT.LAYOUT_SIZE}
+                FORMAT.RECORD_LAYOUT: FORMAT.LAYOUT_SIZE,
+                FORMAT.RECORD_SELECTOR: FORMAT.SELECTOR_SIZE}
 END = b"\0"
 # Of a stream: one cut, the length of a part and the room lent; 240 is a part of 64 bytes.
 STEP_CUT = [1, 240]
@@ -50,15 +51,17 @@ def raw_steps(run):
 def layout_step(record):
     count, first = min(record[FORMAT.LAYOUT_COUNT], FORMAT.LAYOUT_PRNS), FORMAT.LAYOUT_PRN_LIST
     prns = b"".join(END + record[at:at + 2] for at in range(first, first + 2 * count, 2))
-    selector = record[FORMAT.LAYOUT_SELECTOR:FORMAT.LAYOUT_COUNT]
-    return (record[:FORMAT.LAYOUT_SELECTOR] + selector * min(record[FORMAT.LAYOUT_HAS_SELECTOR], 1)
-            + record[FORMAT.LAYOUT_COUNT:first] + prns)
+    length = min(record[FORMAT.LAYOUT_SELECTOR_LENGTH], FORMAT.SELECTOR_MOST)
+    selector_end = FORMAT.LAYOUT_SELECTOR + length
+    return record[:selector_end] + record[FORMAT.LAYOUT_COUNT:first] + prns
 
 
 def record_step(record):
     """The step that puts this record, if its fields are in range."""
     if record[0] == FORMAT.RECORD_LAYOUT:
         return layout_step(record)
+    if record[0] == FORMAT.RECORD_SELECTOR:
+        return record
     form = FORMAT.SLOT_FORM if record[0] == FORMAT.RECORD_SLOT else FORMAT.PRN_FORM
     counted_from_0 = bytes([record[form] - 1 & 255, record[form + 1] - 1 & 255])
     return record[:form] + counted_from_0 + record[form + 2:]

@@ -19,7 +19,7 @@ enum step {
     SLOT = RECORD_SLOT,
     PRN = RECORD_PRN,
     LAYOUT = RECORD_LAYOUT,
-    RAW_BYTES,
+    SELECTOR = RECORD_SELECTOR,
     PRN_RUN,
     SLOT_RUN,
     DAMAGE
@@ -28,12 +28,19 @@ enum step {
 /* Where a key comes from: bits 3 and 4 of a step. Where the SLOT of a PRN
  * comes from: bits 5 and 6. */
 enum origin { FROM_FEED, FROM_RECORD, FROM_SAE, FROM_FEED_TOO };
+/* SAE has no headers: that of a layout or selector record is one of the other. */
+#define FROM_OTHER FROM_SAE
 #define KEY_ORIGIN(step) ((enum origin)((step) >> 3 & 3))
 #define SLOT_ORIGIN(step) ((enum origin)((step) >> 5 & 3))
 /* Of a SLOT: every raw number lies within the limits. */
 #define WITHOUT_LIMITS 0x20
 /* Of a SLOT: the key is one that a PRN names. */
 #define WANTED 0x40
+/* Of DAMAGE: the end is cut off, or any bytes are put behind it. */
+#define CUT 0x08
+#define RAW_BYTES 0x10
+/* A byte from here on is a selector's length as it is, out of range. */
+#define WRONG_LENGTHS 0xF0
 
 struct slot_key {
     uint8_t form;
@@ -43,14 +50,16 @@ struct slot_key {
 
 /* By kind, which is the step that puts one; 1 for an unknown kind. */
 static const size_t record_lengths[] = {
-    1, [RECORD_SLOT] = SLOT_SIZE, [RECORD_PRN] = PRN_SIZE, [RECORD_LAYOUT] = LAYOUT_SIZE,
+    1,
+    [RECORD_SLOT] = SLOT_SIZE,
+    [RECORD_PRN] = PRN_SIZE,
+    [RECORD_LAYOUT] = LAYOUT_SIZE,
+    [RECORD_SELECTOR] = SELECTOR_SIZE,
 };
 
-/* The bytes of the record at a place, and no more than there are. */
-static size_t record_length(const struct draft *draft, size_t place)
+size_t record_length(const uint8_t *record, size_t left)
 {
-    uint8_t kind = draft->bytes[place];
-    size_t length = record_lengths[kind <= LAYOUT ? kind : 0], left = draft->length - place;
+    size_t length = record_lengths[record[0] <= SELECTOR ? record[0] : 0];
     return length < left ? length : left;
 }
 
@@ -60,9 +69,10 @@ static const uint8_t *some_record(struct feed *feed, const struct draft *draft, 
     const uint8_t *found = NULL;
     size_t passed = 0, wanted = take_byte(feed), place = 0;
     while (place < draft->length && passed <= wanted) {
-        size_t length = record_length(draft, place);
-        if (draft->bytes[place] == kind && length == record_lengths[kind]) {
-            found = draft->bytes + place;
+        const uint8_t *record = draft->bytes + place;
+        size_t length = record_length(record, draft->length - place);
+        if (record[0] == kind && length == record_lengths[kind]) {
+            found = record;
             passed++;
         }
         place += length;
@@ -159,27 +169,74 @@ static void put_prn(struct feed *feed, struct draft *draft, uint8_t step)
     put_slot_key(draft, key);
 }
 
-static void put_layout_key(struct feed *feed, struct draft *draft, enum origin origin)
+/* A record of which a layout or selector record takes the header, or NULL for a
+ * new one. */
+static const uint8_t *header_record(struct feed *feed, const struct draft *draft, uint8_t step)
 {
-    const uint8_t *record;
-    if (origin == FROM_RECORD && (record = some_record(feed, draft, LAYOUT))) {
-        for (size_t i = LAYOUT_FIRST_BYTE; i < LAYOUT_KEY_SIZE; i++)
-            put(draft, record[i], 1);
+    enum step kind = (enum step)(step % 8), other = kind == LAYOUT ? SELECTOR : LAYOUT;
+    switch (KEY_ORIGIN(step)) {
+    case FROM_RECORD: return some_record(feed, draft, kind);
+    case FROM_OTHER: return some_record(feed, draft, other);
+    default: return NULL;
+    }
+}
+
+static void put_fields(struct draft *draft, const uint8_t *fields, const uint8_t *end)
+{
+    for (; fields < end; fields++)
+        put(draft, *fields, 1);
+}
+
+/* The first two fields of a layout and of a selector record. */
+static void put_header(struct feed *feed, struct draft *draft, const uint8_t *record)
+{
+    if (record) {
+        put_fields(draft, record + LAYOUT_FIRST_BYTE, record + LAYOUT_SELECTOR_LENGTH);
         return;
     }
-    uint8_t first_byte = take_byte(feed), target = take_byte(feed), present = take_byte(feed) % 4;
+    uint8_t first_byte = take_byte(feed), target = take_byte(feed);
     bool one_byte = first_byte & BIT_H;
     put(draft, one_byte ? first_byte : (uint8_t)(first_byte & ~PRIORITY_BITS), 1);
     put(draft, one_byte ? 0 : target, 1);
-    put(draft, present != 0, 1);
-    put(draft, present != 0 ? take_byte(feed) : 0, 1);
+}
+
+static uint8_t take_selector_length(struct feed *feed)
+{
+    uint8_t byte = take_byte(feed);
+    return byte < WRONG_LENGTHS ? byte % (SELECTOR_MOST + 1) : byte;
+}
+
+/* The whole key is that of an earlier layout, or the header is one for which there
+ * is a length: that of this layout or another. */
+static void put_layout_key(struct feed *feed, struct draft *draft, uint8_t step)
+{
+    const uint8_t *record = header_record(feed, draft, step);
+    if (record && record[0] == LAYOUT) {
+        put_fields(draft, record + LAYOUT_FIRST_BYTE, record + LAYOUT_KEY_SIZE);
+        return;
+    }
+    put_header(feed, draft, record);
+    uint8_t length = take_selector_length(feed);
+    put(draft, length, 1);
+    for (uint8_t i = 0; i < SELECTOR_MOST; i++)
+        put(draft, i < length ? take_byte(feed) : 0, 1);
+}
+
+/* For the header of a layout the length is that of its selector. */
+static void put_selector(struct feed *feed, struct draft *draft, uint8_t step)
+{
+    const uint8_t *record = header_record(feed, draft, step);
+    put(draft, SELECTOR, 1);
+    put_header(feed, draft, record);
+    bool is_met = record && record[0] == LAYOUT;
+    put(draft, is_met ? record[LAYOUT_SELECTOR_LENGTH] : take_selector_length(feed), 1);
 }
 
 /* The origin of each PRN stands in the low bits of a byte before it. */
 static void put_layout(struct feed *feed, struct draft *draft, uint8_t step)
 {
     put(draft, LAYOUT, 1);
-    put_layout_key(feed, draft, KEY_ORIGIN(step));
+    put_layout_key(feed, draft, step);
     uint8_t count = take_byte(feed) % (LAYOUT_PRNS + 1);
     put(draft, count, 1);
     for (uint8_t i = 0; i < LAYOUT_PRNS; i++)
@@ -215,13 +272,17 @@ static void put_slot_run(struct feed *feed, struct draft *draft)
     }
 }
 
-/* Another byte at some place, or the end cut off. */
+/* Any bytes put behind, another byte at some place, or the end cut off. */
 static void damage(struct feed *feed, struct draft *draft, uint8_t step)
 {
+    if (step & RAW_BYTES) {
+        put_run(draft, feed, take_byte(feed));
+        return;
+    }
     uint16_t place = take_16(feed);
     if (draft->length == 0)
         return;
-    if (step & 0x08)
+    if (step & CUT)
         draft->length -= place % draft->length;
     else
         draft->bytes[place % draft->length] = take_byte(feed);
@@ -235,7 +296,7 @@ void draft_supplement(struct feed *feed, struct draft *supplement)
         case SLOT: put_slot(feed, supplement, step); break;
         case PRN: put_prn(feed, supplement, step); break;
         case LAYOUT: put_layout(feed, supplement, step); break;
-        case RAW_BYTES: put_run(supplement, feed, take_byte(feed)); break;
+        case SELECTOR: put_selector(feed, supplement, step); break;
         case PRN_RUN: put_prn_run(feed, supplement); break;
         case SLOT_RUN: put_slot_run(feed, supplement); break;
         default: damage(feed, supplement, step); break;
@@ -251,8 +312,9 @@ void mend(struct draft *supplement)
     for (size_t faults = 0;
          (answer = judge_calls.check(supplement->bytes, supplement->length)) != 0; faults++) {
         size_t place = RAKHUBOLE_PLACE(answer), left = supplement->length - place;
-        size_t taken = faults < MOST_FAULTS ? record_length(supplement, place) : left;
-        memmove(supplement->bytes + place, supplement->bytes + place + taken, left - taken);
+        uint8_t *record = supplement->bytes + place;
+        size_t taken = faults < MOST_FAULTS ? record_length(record, left) : left;
+        memmove(record, record + taken, left - taken);
         supplement->length -= taken;
     }
 }
@@ -264,14 +326,15 @@ void seek_layout(struct feed *feed, const struct draft *supplement, struct draft
         return;
     bool one_byte = layout[LAYOUT_FIRST_BYTE] & BIT_H;
     uint8_t *bytes = first->bytes;
-    size_t selector = one_byte ? 1 : 3;
-    if (first->length <= selector)
+    size_t header = one_byte ? 1 : 3;
+    if (first->length <= header)
         return;
     bytes[0] = layout[LAYOUT_FIRST_BYTE] | (one_byte ? 0 : bytes[0] & PRIORITY_BITS);
     if (!one_byte)
         bytes[1] = layout[LAYOUT_TARGET];
-    if (layout[LAYOUT_HAS_SELECTOR])
-        bytes[selector] = layout[LAYOUT_SELECTOR];
+    size_t room = first->length - header, length = layout[LAYOUT_SELECTOR_LENGTH];
+    if (length <= SELECTOR_MOST)
+        memcpy(bytes + header, layout + LAYOUT_SELECTOR, length < room ? length : room);
 }
 
 void draft_report_supplement(struct feed *feed, uint8_t flags, struct draft *supplement,
