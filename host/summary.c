@@ -50,6 +50,9 @@ static void mark_prns(const struct supplement *supplement, bool *is_named)
             is_named[layout_prn(&record, i)] = true;
 }
 
+/* So few that a line of text is never longer than compile takes. */
+enum { PRNS_A_LINE = 16 };
+
 static void put_missing_prns(FILE *file, const struct supplement *supplement, const char *before)
 {
     bool is_named[UINT16_MAX + 1] = {false};
@@ -58,8 +61,11 @@ static void put_missing_prns(FILE *file, const struct supplement *supplement, co
     for (size_t prn = 0; prn <= UINT16_MAX; prn++) {
         if (!is_named[prn] || label_of(supplement, (uint16_t)prn).is_found)
             continue;
-        if (count++ == 0)
+        if (count == 0)
             fprintf(file, "%slayouts name PRNs that are in neither table, Unknown 1:", before);
+        else if (count % PRNS_A_LINE == 0)
+            fprintf(file, "\n%s ", before);
+        count++;
         fprintf(file, " %04X", (unsigned)prn);
     }
     if (count)
