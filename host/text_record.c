@@ -222,9 +222,10 @@ static bool read_header(struct cursor *cursor, uint8_t out[2])
     if (!take(cursor, "header") ||
         !take_byte(cursor, "a first byte of two hexadecimal digits", &out[0]))
         return false;
-    if ((out[0] & BIT_H) != 0 && !digit_follows(cursor))
-        return true;
-    return take_byte(cursor, "the target, since the first byte has H = 0,", &out[1]);
+    if ((out[0] & BIT_H) == 0)
+        return take_byte(cursor, "the target, since the first byte has H = 0,", &out[1]);
+    return !digit_follows(cursor) ||
+           take_byte(cursor, "the target 00 or none, since the first byte has H = 1,", &out[1]);
 }
 
 /* "selector 41", "selector 41 0C" or "no selector", as length and bytes. */

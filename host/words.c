@@ -62,7 +62,7 @@ const char *unknown_words(unsigned unknown)
     case RAKHUBOLE_UNKNOWN_STATE: return "the code is outside the SLOT's states";
     case RAKHUBOLE_UNKNOWN_WIDTH: return "wider than 32 bits";
     case RAKHUBOLE_UNKNOWN_RESPONSE: return "response data are not decoded";
-    case RAKHUBOLE_UNKNOWN_LAYOUT: return "no layout for this header";
+    case RAKHUBOLE_UNKNOWN_LAYOUT: return "no layout for this header and selector";
     default: return "no reason is known for this number";
     }
 }
