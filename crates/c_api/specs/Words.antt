@@ -8,39 +8,39 @@ use Rattle.report.specs.Answer.{Answer}
 use Rattle.report.specs.Answer as answer
 
 -- What one counts for in bytes 1 to 4 of an answer.
-abbrev pub Byte1 : ℕ
-Byte1 = 2 ^ 8
+abbrev pub byte1 : ℕ
+byte1 = 2 ^ 8
 
-abbrev pub Byte2 : ℕ
-Byte2 = 2 ^ 16
+abbrev pub byte2 : ℕ
+byte2 = 2 ^ 16
 
-abbrev pub Byte3 : ℕ
-Byte3 = 2 ^ 24
+abbrev pub byte3 : ℕ
+byte3 = 2 ^ 24
 
-abbrev pub Byte4 : ℕ
-Byte4 = 2 ^ 32
+abbrev pub byte4 : ℕ
+byte4 = 2 ^ 32
 
 -- Byte 1 the header's length, byte 2 that of the data, byte 3 the response kind, byte 4 the response's length without check byte.
-abbrev pub readWord : Outcome Sizes → ℕ
-readWord (refused n) = n
-readWord (accepted s) = s.header * Byte1 + s.body * Byte2 + s.kind * Byte3 + s.response * Byte4
+abbrev pub read_word : Outcome Sizes → ℕ
+read_word (refused n) = n
+read_word (accepted s) = s.header * byte1 + s.body * byte2 + s.kind * byte3 + s.response * byte4
 
 -- Byte 1 the length of the first run, byte 2 that of the response, 0 where a bus has none.
-abbrev pub writeWord : Outcome Runs → ℕ
-writeWord (refused n) = n
-writeWord (accepted r) = r.first * Byte1 + r.response * Byte2
+abbrev pub write_word : Outcome Runs → ℕ
+write_word (refused n) = n
+write_word (accepted r) = r.first * byte1 + r.response * byte2
 
 -- From byte 1 on the place of the record with the fault.
-abbrev pub checkWord : Checked → ℕ
-checkWord c = c.refusal + c.place * Byte1
+abbrev pub check_word : Checked → ℕ
+check_word c = c.refusal + c.place * byte1
 
 -- From byte 1 on the length of the rows, or the place of the record with the fault.
-abbrev pub reportWord : Answer ℕ → ℕ
-reportWord (answer.refused n place) = n + place * Byte1
-reportWord (answer.shown size) = size * Byte1
+abbrev pub report_word : Answer ℕ → ℕ
+report_word (answer.refused n place) = n + place * byte1
+report_word (answer.shown size) = size * byte1
 
 -- Byte 1 is 1 if a frame is given, byte 2 the length of its first run, byte 3 that of its second.
-abbrev pub streamWord : Option (Outcome Runs) → ℕ
-streamWord none = 0
-streamWord (some (refused n)) = n
-streamWord (some (accepted r)) = Byte1 + r.first * Byte2 + r.response * Byte3
+abbrev pub stream_word : Option (Outcome Runs) → ℕ
+stream_word none = 0
+stream_word (some (refused n)) = n
+stream_word (some (accepted r)) = byte1 + r.first * byte2 + r.response * byte3

@@ -1,15 +1,15 @@
 // The exported calls: numbers and byte slices in, one number out. include/rakhubole.h says them in words.
 ghost use Rattle.std.specs.Prelude.{◌≡◌, length};
-ghost use Rattle.frame.specs.Frame.{sizes, reading_of, runs, writingOf, outWritten};
-ghost use Rattle.frame.specs.Reader.{readFrame};
-ghost use Rattle.frame.specs.Writer.{writeFrame};
-ghost use Rattle.frame.specs.Iso.{readIso, writeIso};
+ghost use Rattle.frame.specs.Frame.{sizes, reading_of, runs, writing_of, out_written};
+ghost use Rattle.frame.specs.Reader.{read_frame};
+ghost use Rattle.frame.specs.Writer.{write_frame};
+ghost use Rattle.frame.specs.Iso.{read_iso, write_iso};
 ghost use Rattle.catalogue.specs.Supplement.{check};
-ghost use Rattle.report.specs.Answer.{j1850Answer, isoAnswer, sized, outAfter, reportedOf};
-ghost use Rattle.stream.specs.Reader.{toldWithin, runsTold, outTold, toldOf, taken, after, endRefusal};
-ghost use Rattle.stream.specs.State.{positionIn, bytesOf};
-ghost use Rattle.c_api.specs.Words.{readWord, writeWord, checkWord, reportWord, streamWord};
-ghost use Rattle.c_api.specs.Contracts.{SmallSizes, SmallRuns, SmallAnswer, SmallTold};
+ghost use Rattle.report.specs.Answer.{j1850_answer, iso_answer, sized, out_after, reported_of};
+ghost use Rattle.stream.specs.Reader.{told_within, runs_told, out_told, told_of, taken, after, end_refusal};
+ghost use Rattle.stream.specs.State.{position_in, bytes_of};
+ghost use Rattle.c_api.specs.Words.{read_word, write_word, check_word, report_word, stream_word};
+ghost use Rattle.c_api.specs.Inner.{SmallSizes, SmallRuns, SmallAnswer, SmallTold};
 
 use catalogue::supplement::check_supplement;
 use frame::frame::{Reading, Writing};
@@ -31,7 +31,7 @@ const BYTE_4: u64 = 0x1_0000_0000;
 
 fn read_word(reading: Reading) -> u64
     requires { SmallSizes (reading_of reading) }
-    ensures { result ≡ readWord (reading_of reading) }
+    ensures { result ≡ read_word (reading_of reading) }
 {
     match reading {
         Reading::Refused(n) => n as u64,
@@ -50,8 +50,8 @@ fn read_word(reading: Reading) -> u64
 }
 
 fn write_word(writing: Writing) -> u64
-    requires { SmallRuns (writingOf writing) }
-    ensures { result ≡ writeWord (writingOf writing) }
+    requires { SmallRuns (writing_of writing) }
+    ensures { result ≡ write_word (writing_of writing) }
 {
     match writing {
         Writing::Refused(n) => n as u64,
@@ -60,8 +60,8 @@ fn write_word(writing: Writing) -> u64
 }
 
 fn report_word(reported: Reported) -> u64
-    requires { SmallAnswer (reportedOf reported) }
-    ensures { result ≡ reportWord (reportedOf reported) }
+    requires { SmallAnswer (reported_of reported) }
+    ensures { result ≡ report_word (reported_of reported) }
 {
     match reported {
         Reported::Refused(n, place) => n as u64 + place as u64 * BYTE_1,
@@ -70,8 +70,8 @@ fn report_word(reported: Reported) -> u64
 }
 
 fn stream_word(told: Told) -> u64
-    requires { SmallTold (toldOf told) }
-    ensures { result ≡ streamWord (toldOf told) }
+    requires { SmallTold (told_of told) }
+    ensures { result ≡ stream_word (told_of told) }
 {
     match told {
         Told::Nothing => 0,
@@ -83,7 +83,7 @@ fn stream_word(told: Told) -> u64
 // Reads a frame of J1850, given as its two runs.
 #[unsafe(no_mangle)]
 pub extern "C" fn rakhubole_j1850_read(first: &[u8], response: &[u8]) -> u64
-    ensures { result ≡ readWord (sizes (readFrame first.now response.now)) }
+    ensures { result ≡ read_word (sizes (read_frame first.now response.now)) }
 {
     read_word(read_frame(first, response))
 }
@@ -96,8 +96,8 @@ pub extern "C" fn rakhubole_j1850_write(
     response: &[u8],
     out: &mut [u8],
 ) -> u64
-    ensures told { result ≡ writeWord (runs (writeFrame header.now body.now response.now (length out.old))) }
-    ensures left { out.new ≡ outWritten (writeFrame header.now body.now response.now (length out.old)) out.old }
+    ensures told { result ≡ write_word (runs (write_frame header.now body.now response.now (length out.old))) }
+    ensures left { out.new ≡ out_written (write_frame header.now body.now response.now (length out.old)) out.old }
 {
     write_word(write_frame(header, body, response, out))
 }
@@ -105,7 +105,7 @@ pub extern "C" fn rakhubole_j1850_write(
 // Reads a message of ISO 9141-2, given as its run.
 #[unsafe(no_mangle)]
 pub extern "C" fn rakhubole_iso9141_read(run: &[u8]) -> u64
-    ensures { result ≡ readWord (sizes (readIso run.now)) }
+    ensures { result ≡ read_word (sizes (read_iso run.now)) }
 {
     read_word(read_iso(run))
 }
@@ -113,8 +113,8 @@ pub extern "C" fn rakhubole_iso9141_read(run: &[u8]) -> u64
 // Writes a message of ISO 9141-2 from its parts, at the start of `out`.
 #[unsafe(no_mangle)]
 pub extern "C" fn rakhubole_iso9141_write(header: &[u8], body: &[u8], out: &mut [u8]) -> u64
-    ensures told { result ≡ writeWord (runs (writeIso header.now body.now (length out.old))) }
-    ensures left { out.new ≡ outWritten (writeIso header.now body.now (length out.old)) out.old }
+    ensures told { result ≡ write_word (runs (write_iso header.now body.now (length out.old))) }
+    ensures left { out.new ≡ out_written (write_iso header.now body.now (length out.old)) out.old }
 {
     write_word(write_iso(header, body, out))
 }
@@ -122,7 +122,7 @@ pub extern "C" fn rakhubole_iso9141_write(header: &[u8], body: &[u8], out: &mut 
 // Tests a supplement.
 #[unsafe(no_mangle)]
 pub extern "C" fn rakhubole_supplement_check(supplement: &[u8]) -> u64
-    ensures { result ≡ checkWord (check supplement.now) }
+    ensures { result ≡ check_word (check supplement.now) }
 {
     let checked = check_supplement(supplement);
     checked.refusal as u64 + checked.place as u64 * BYTE_1
@@ -136,8 +136,8 @@ pub extern "C" fn rakhubole_j1850_report(
     response: &[u8],
     out: &mut [u8],
 ) -> u64
-    ensures told { result ≡ reportWord (sized (j1850Answer supplement.now first.now response.now (length out.old))) }
-    ensures left { out.new ≡ outAfter (j1850Answer supplement.now first.now response.now (length out.old)) out.old }
+    ensures told { result ≡ report_word (sized (j1850_answer supplement.now first.now response.now (length out.old))) }
+    ensures left { out.new ≡ out_after (j1850_answer supplement.now first.now response.now (length out.old)) out.old }
 {
     report_word(report::j1850::report(supplement, first, response, out))
 }
@@ -145,8 +145,8 @@ pub extern "C" fn rakhubole_j1850_report(
 // Reports a message of ISO 9141-2 under a supplement: the rows at the start of `out`.
 #[unsafe(no_mangle)]
 pub extern "C" fn rakhubole_iso9141_report(supplement: &[u8], run: &[u8], out: &mut [u8]) -> u64
-    ensures told { result ≡ reportWord (sized (isoAnswer supplement.now run.now (length out.old))) }
-    ensures left { out.new ≡ outAfter (isoAnswer supplement.now run.now (length out.old)) out.old }
+    ensures told { result ≡ report_word (sized (iso_answer supplement.now run.now (length out.old))) }
+    ensures left { out.new ≡ out_after (iso_answer supplement.now run.now (length out.old)) out.old }
 {
     report_word(report::iso::report(supplement, run, out))
 }
@@ -158,8 +158,8 @@ pub extern "C" fn rakhubole_stream_read(
     part: &[u8],
     out: &mut [u8],
 ) -> u64
-    ensures told { result ≡ streamWord (runsTold (toldWithin (positionIn state.now) part.now (length out.old))) }
-    ensures left { out.new ≡ outTold (toldWithin (positionIn state.now) part.now (length out.old)) out.old }
+    ensures told { result ≡ stream_word (runs_told (told_within (position_in state.now) part.now (length out.old))) }
+    ensures left { out.new ≡ out_told (told_within (position_in state.now) part.now (length out.old)) out.old }
 {
     let bytes = *state;
     stream_word(tell(state_of(bytes), part, out))
@@ -168,8 +168,8 @@ pub extern "C" fn rakhubole_stream_read(
 // Advances the state over the bytes that the telling call takes.
 #[unsafe(no_mangle)]
 pub extern "C" fn rakhubole_stream_advance(state: &mut [u8; STATE_BYTES], part: &[u8]) -> u64
-    ensures told { result ≡ taken (positionIn state.old) part.now }
-    ensures left { state.new ≡ bytesOf (after (positionIn state.old) part.now) }
+    ensures told { result ≡ taken (position_in state.old) part.now }
+    ensures left { state.new ≡ bytes_of (after (position_in state.old) part.now) }
 {
     let before = *state;
     let advanced = advance(state_of(before), part);
@@ -182,7 +182,7 @@ pub extern "C" fn rakhubole_stream_advance(state: &mut [u8; STATE_BYTES], part: 
 // The refusal of a stream that ends in this state.
 #[unsafe(no_mangle)]
 pub extern "C" fn rakhubole_stream_end(state: &[u8; STATE_BYTES]) -> u64
-    ensures { result ≡ endRefusal (positionIn state.now) }
+    ensures { result ≡ end_refusal (position_in state.now) }
 {
     let bytes = *state;
     end_refusal(state_of(bytes)) as u64
@@ -191,7 +191,7 @@ pub extern "C" fn rakhubole_stream_end(state: &[u8; STATE_BYTES]) -> u64
 // The place of the record begun, or of the next.
 #[unsafe(no_mangle)]
 pub extern "C" fn rakhubole_stream_place(state: &[u8; STATE_BYTES]) -> u64
-    ensures { result ≡ (positionIn state.now).place }
+    ensures { result ≡ (position_in state.now).place }
 {
     let bytes = *state;
     let begun = state_of(bytes);

@@ -1,49 +1,49 @@
--- The rule of both SAE tables, by one computed test, and what a PRN row takes in the code.
+-- The rule of both SAE tables, by one computed test, and what a prn_kind row takes in the code.
 use Prim.Native.Nat.{ℕ, ◌*◌, ◌/◌}
 use mathlib.Core.Path.{◌≡◌, refl, sym, ap, ◌∙◌}
 use mathlib.Core.Bool.{true}
 use mathlib.Core.List.{List, map}
 use lib.ListN.{length, take, drop}
 use Rattle.catalogue.specs.declared.rows.PrnRow.{PrnRow}
-use Rattle.catalogue.specs.Rows.{inOrder, keyFits, prnFits, slotFits, prnSized, slotSized}
-use Rattle.catalogue.specs.Tables.{prnRows, slotRows}
+use Rattle.catalogue.specs.Rows.{in_order, key_fits, prn_fits, slot_fits, prn_sized, slot_sized}
+use Rattle.catalogue.specs.Tables.{prn_rows, slot_rows}
 use Rattle.catalogue.specs.Search.{every, rising}
-use Rattle.catalogue.specs.Sae.{prnRowKey, slotRowKey, tablesHold}
-use Rattle.catalogue.specs.Unpack.{prnIn, prnsIn}
-use Rattle.catalogue.proofs.search.Laws.{both, rows-counted}
+use Rattle.catalogue.specs.Sae.{prn_row_key, slot_row_key, tables_hold}
+use Rattle.catalogue.specs.Unpack.{prn_in, prns_in}
+use Rattle.catalogue.proofs.search.Laws.{both, rows_counted}
 
 -- The rule of both tables: document 01, "One statement over the whole table gives its order and ranges".
-pub tables-hold : tablesHold ≡ true
-unfolding tablesHold rising every prnFits slotFits prnSized slotSized keyFits inOrder prnRows slotRows
-tables-hold = refl
+pub tables_hold_lem : tables_hold ≡ true
+unfolding tables_hold rising every prn_fits slot_fits prn_sized slot_sized key_fits in_order prn_rows slot_rows
+tables_hold_lem = refl
 
 -- Its parts.
 pub record TableRule : Type 0 where
-  pub prn-rising : rising (map prnRowKey prnRows) ≡ true
-  pub slot-rising : rising (map slotRowKey slotRows) ≡ true
-  pub prn-fits : every prnFits prnRows ≡ true
-  pub slot-fits : every slotFits slotRows ≡ true
-  pub prn-sized : every prnSized prnRows ≡ true
-  pub slot-sized : every slotSized slotRows ≡ true
+  pub prn_rising : rising (map prn_row_key prn_rows) ≡ true
+  pub slot_rising : rising (map slot_row_key slot_rows) ≡ true
+  pub prn_fits_lem : every prn_fits prn_rows ≡ true
+  pub slot_fits_lem : every slot_fits slot_rows ≡ true
+  pub prn_sized_lem : every prn_sized prn_rows ≡ true
+  pub slot_sized_lem : every slot_sized slot_rows ≡ true
 
-pub table-rule : TableRule
-unfolding tablesHold
-table-rule =
-    let five = both _ _ tables-hold in
+pub table_rule : TableRule
+unfolding tables_hold
+table_rule =
+    let five = both _ _ tables_hold_lem in
     let four = both _ _ five.0 in
     let three = both _ _ four.0 in
     let two = both _ _ three.0 in
     let one = both _ _ two.0 in
     record {
-      prn-rising = one.0;
-      slot-rising = one.1;
-      prn-fits = two.1;
-      slot-fits = three.1;
-      prn-sized = four.1;
-      slot-sized = five.1;
+      prn_rising = one.0;
+      slot_rising = one.1;
+      prn_fits_lem = two.1;
+      slot_fits_lem = three.1;
+      prn_sized_lem = four.1;
+      slot_sized_lem = five.1;
     }
 
--- The PRN table in the code: document 02, "Keep the PRN rows, however that is done now, in at most five bytes each".
-pub five-bytes-each : (table : List ℕ) → prnsIn table ≡ prnRows → length table / 5 ≡ length prnRows
-five-bytes-each table e =
-    sym (rows-counted (λ i. prnIn (take 5 (drop (i * 5) table))) 0 (length table / 5)) ∙ ap (λ (l : List PrnRow). length l) e
+-- The prn_kind table in the code: document 02, "Keep the prn_kind rows, however that is done now, in at most five bytes each".
+pub five_bytes_each : (table : List ℕ) → prns_in table ≡ prn_rows → length table / 5 ≡ length prn_rows
+five_bytes_each table e =
+    sym (rows_counted (λ i. prn_in (take 5 (drop (i * 5) table))) 0 (length table / 5)) ∙ ap (λ (l : List PrnRow). length l) e

@@ -16,33 +16,33 @@ rows_from row i (suc n) = row i ∷ rows_from row (suc i) n
 abbrev pub unpack : {A : Type 0} → ℕ → (List ℕ → A) → List ℕ → List A
 unpack size row table = rows_from (λ i. row (take size (drop (i * size) table))) 0 (length table / size)
 
--- A PRN row, of bytes: PRN (2), form, width, SLOT number.
-abbrev pub prnIn : List ℕ → PrnRow
-prnIn r = prn (two r 0) (get_or r 2 0) (get_or r 3 0) (get_or r 4 0)
+-- A prn_kind row, of bytes: prn_kind (2), form, width, slot_kind number.
+abbrev pub prn_in : List ℕ → PrnRow
+prn_in r = prn (two r 0) (get_or r 2 0) (get_or r 3 0) (get_or r 4 0)
 
-abbrev pub prnsIn : List ℕ → List PrnRow
-prnsIn = unpack 5 prnIn
+abbrev pub prns_in : List ℕ → List PrnRow
+prns_in = unpack 5 prn_in
 
 -- A row of no bytes, which stands past the last.
-abbrev pub noPrn : PrnRow
-noPrn = prnIn []
+abbrev pub no_prn : PrnRow
+no_prn = prn_in []
 
-abbrev pub prnUnpacked : PackedPrn → PrnRow
-prnUnpacked r = prn r.prn r.form (r.item / 256) (r.item % 256)
+abbrev pub prn_unpacked : PackedPrn → PrnRow
+prn_unpacked r = prn r.prn r.form (r.item / 256) (r.item % 256)
 
--- A SLOT row, of words: key, which is form, width and number; multiplier and divisor; offset; lowest and highest raw number.
-abbrev pub slotFrom : ℕ → ℕ → ℕ → ℕ → ℕ → SlotRow
-slotFrom key scale o l h =
+-- A slot_kind row, of words: key, which is form, width and number; multiplier and divisor; offset; lowest and highest raw number.
+abbrev pub slot_from : ℕ → ℕ → ℕ → ℕ → ℕ → SlotRow
+slot_from key scale o l h =
     slot (key / 2 ^ 24) (key / 2 ^ 16 % 2 ^ 8) (key % 2 ^ 16) (scale / 2 ^ 16) (scale % 2 ^ 16) o l h
 
-abbrev pub slotIn : List ℕ → SlotRow
-slotIn r = slotFrom (get_or r 0 0) (get_or r 1 0) (get_or r 2 0) (get_or r 3 0) (get_or r 4 0)
+abbrev pub slot_in : List ℕ → SlotRow
+slot_in r = slot_from (get_or r 0 0) (get_or r 1 0) (get_or r 2 0) (get_or r 3 0) (get_or r 4 0)
 
-abbrev pub slotsIn : List ℕ → List SlotRow
-slotsIn = unpack 5 slotIn
+abbrev pub slots_in : List ℕ → List SlotRow
+slots_in = unpack 5 slot_in
 
 abbrev pub no_slot : SlotRow
-no_slot = slotIn []
+no_slot = slot_in []
 
-abbrev pub slotUnpacked : PackedSlot → SlotRow
-slotUnpacked r = slotFrom r.key r.scale r.offset r.lowest r.highest
+abbrev pub slot_unpacked : PackedSlot → SlotRow
+slot_unpacked r = slot_from r.key r.scale r.offset r.lowest r.highest

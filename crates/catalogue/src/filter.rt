@@ -1,6 +1,6 @@
 // A filter of keys: a key whose bit is not set is surely new.
 ghost use Rattle.std.specs.Prelude.{◌≡◌};
-ghost use Rattle.catalogue.specs.Contracts.{bit_of, Marks};
+ghost use Rattle.catalogue.specs.Inner.{bit_of, Marks};
 
 use crate::numbers::two_at;
 use frame::bytes::byte_at;

@@ -1,6 +1,6 @@
 // The kinds of records.
 ghost use Rattle.std.specs.Prelude.{◌≡◌};
-ghost use Rattle.catalogue.specs.Kind.{recordSize, keySize};
+ghost use Rattle.catalogue.specs.Kind.{record_size, key_size};
 
 pub const SLOT: u8 = 1;
 
@@ -16,7 +16,7 @@ pub const MOST_PRNS: usize = 16;
 
 // Bytes of a record by its kind; an unknown kind is one byte.
 pub(crate) fn record_size(kind: u8) -> usize
-    ensures { result ≡ recordSize kind }
+    ensures { result ≡ record_size kind }
 {
     match kind {
         SLOT => 21,
@@ -29,7 +29,7 @@ pub(crate) fn record_size(kind: u8) -> usize
 
 // Bytes of kind and key together.
 pub(crate) fn key_size(kind: u8) -> usize
-    ensures { result ≡ keySize kind }
+    ensures { result ≡ key_size kind }
 {
     match kind {
         SLOT => 5,

@@ -1,11 +1,11 @@
 // What the SAE tables and a supplement hold together: by PRN, by form, width and number, by header, and by layout key.
 ghost use Rattle.std.specs.Prelude.{◌≡◌, ◌≤◌};
 ghost use Rattle.std.proofs.Math.Option.{none};
-ghost use Rattle.catalogue.specs.Rows.{prnOf, slot_of};
-ghost use Rattle.catalogue.specs.Record.{MostPrns, recordWith, prnRow, slotRow};
-ghost use Rattle.catalogue.specs.Supplement.{recordsOf};
-ghost use Rattle.catalogue.specs.Contracts.{recordIn};
-ghost use Rattle.catalogue.specs.Lookup.{prnKey, slotKey, orRecord, catalogue, lengthFor, prnsUsed, layoutFound};
+ghost use Rattle.catalogue.specs.Rows.{prn_of, slot_of};
+ghost use Rattle.catalogue.specs.Record.{most_prns, record_with, prn_row, slot_row};
+ghost use Rattle.catalogue.specs.Supplement.{records_of};
+ghost use Rattle.catalogue.specs.Inner.{record_in};
+ghost use Rattle.catalogue.specs.Lookup.{prn_key, slot_key, or_record, catalogue, length_for, prns_used, layout_found};
 
 use crate::kind::{MOST_PRNS, PRN, SELECTOR, SLOT};
 use crate::numbers::two_at;
@@ -28,7 +28,7 @@ pub struct LayoutFound {
 
 // The PRN record of the supplement.
 fn own_prn(s: &[u8], prn: u16) -> PrnFound
-    ensures { prnOf result ≡ orRecord none prnRow (recordWith (prnKey prn) (recordsOf s.now)) }
+    ensures { prn_of result ≡ or_record none prn_row (record_with (prn_key prn) (records_of s.now)) }
 {
     let key = [PRN, (prn / 256) as u8, (prn % 256) as u8];
     let bytes = bytes_with(s, &key);
@@ -40,7 +40,7 @@ fn own_prn(s: &[u8], prn: u16) -> PrnFound
 
 // The row of a PRN, whatever the supplement.
 pub fn find_prn(s: &[u8], prn: u16) -> PrnFound
-    ensures { prnOf result ≡ (catalogue s.now).prn prn }
+    ensures { prn_of result ≡ (catalogue s.now).prn prn }
 {
     let row = prn_row(prn);
     match row {
@@ -51,7 +51,7 @@ pub fn find_prn(s: &[u8], prn: u16) -> PrnFound
 
 // The SLOT record of the supplement.
 fn own_slot(s: &[u8], form: u8, width: u8, number: u16) -> SlotFound
-    ensures { slot_of result ≡ orRecord none slotRow (recordWith (slotKey form width number) (recordsOf s.now)) }
+    ensures { slot_of result ≡ or_record none slot_row (record_with (slot_key form width number) (records_of s.now)) }
 {
     let key = [
         SLOT,
@@ -80,7 +80,7 @@ pub fn find_slot(s: &[u8], form: u8, width: u8, number: u16) -> SlotFound
 
 // The selector's length for a header, given as its first byte and target, whatever the supplement.
 pub fn find_length(s: &[u8], first: u8, target: u8) -> u8
-    ensures { result ≡ lengthFor (catalogue s.now) first target }
+    ensures { result ≡ length_for (catalogue s.now) first target }
 {
     let key = [SELECTOR, first, target];
     let bytes = bytes_with(s, &key);
@@ -92,8 +92,8 @@ pub fn find_length(s: &[u8], first: u8, target: u8) -> u8
 
 // So many PRNs of a layout record. Most layouts use few of the sixteen.
 fn prns_of(bytes: &[u8], count: usize) -> [u16; MOST_PRNS]
-    requires { count ≤ MostPrns }
-    ensures { result ≡ prnsUsed count bytes.now }
+    requires { count ≤ most_prns }
+    ensures { result ≡ prns_used count bytes.now }
 {
     let mut prns = [0u16; MOST_PRNS];
     for i in 0..count {
@@ -104,14 +104,14 @@ fn prns_of(bytes: &[u8], count: usize) -> [u16; MOST_PRNS]
 
 // The layout of a kind and key, whatever the supplement.
 pub fn find_layout(s: &[u8], key: &[u8]) -> LayoutFound
-    ensures { result ≡ layoutFound (recordWith key.now (recordsOf s.now)) }
+    ensures { result ≡ layout_found (record_with key.now (records_of s.now)) }
 {
     layout_of(bytes_with(s, key))
 }
 
 // The layout of a record, if the bytes are one.
 fn layout_of(bytes: &[u8]) -> LayoutFound
-    ensures { result ≡ layoutFound (recordIn bytes.now) }
+    ensures { result ≡ layout_found (record_in bytes.now) }
 {
     if bytes.len() == 0 {
         return LayoutFound {

@@ -1,6 +1,6 @@
 // A record of a supplement: its key and its fields.
 ghost use Rattle.std.specs.Prelude.{◌≡◌, ◌<◌, drop};
-ghost use Rattle.catalogue.specs.Record.{has_key, slotRow, prnRow, allZero, headerFits, selectorLength, selectorBytes, selectorFits, layoutFits, in_range, inSae};
+ghost use Rattle.catalogue.specs.Record.{has_key, slot_row, prn_row, all_zero, header_fits, selector_length, selector_bytes, selector_fits, layout_fits, in_range, in_sae};
 
 use crate::kind::{LAYOUT, MOST_PRNS, PRN, SELECTOR, SLOT};
 use crate::numbers::{four_at, two_at};
@@ -31,7 +31,7 @@ pub(crate) const LAYOUT_COUNT: usize = 6;
 pub(crate) const LAYOUT_PRNS: usize = 7;
 
 pub(crate) fn slot_of(bytes: &[u8]) -> SlotRow
-    ensures { result ≡ slotRow bytes.now }
+    ensures { result ≡ slot_row bytes.now }
 {
     SlotRow {
         form: byte_at(bytes, SLOT_FORM),
@@ -46,7 +46,7 @@ pub(crate) fn slot_of(bytes: &[u8]) -> SlotRow
 }
 
 pub(crate) fn prn_of(bytes: &[u8]) -> PrnRow
-    ensures { result ≡ prnRow bytes.now }
+    ensures { result ≡ prn_row bytes.now }
 {
     PrnRow {
         prn: two_at(bytes, PRN_NUMBER),
@@ -83,7 +83,7 @@ pub(crate) fn has_key(key: &[u8], bytes: &[u8]) -> bool
 
 // Whether every byte from a place on is zero.
 fn all_zero(bytes: &[u8], from: usize) -> bool
-    ensures { result ≡ allZero (drop from bytes.now) }
+    ensures { result ≡ all_zero (drop from bytes.now) }
 {
     let mut any: u8 = 0;
     let mut i = from;
@@ -95,7 +95,7 @@ fn all_zero(bytes: &[u8], from: usize) -> bool
 }
 
 fn header_fits(first: u8, target: u8) -> bool
-    ensures { result ≡ headerFits first target }
+    ensures { result ≡ header_fits first target }
 {
     if (first >> 4) & 1 == 0 {
         first >> 5 == 0
@@ -106,7 +106,7 @@ fn header_fits(first: u8, target: u8) -> bool
 
 // The header and the selector's length, of a layout too.
 fn selector_fits(bytes: &[u8]) -> bool
-    ensures { result ≡ selectorFits bytes.now }
+    ensures { result ≡ selector_fits bytes.now }
 {
     if !header_fits(byte_at(bytes, 1), byte_at(bytes, 2)) {
         return false;
@@ -116,7 +116,7 @@ fn selector_fits(bytes: &[u8]) -> bool
 
 // Whether the selector bytes of a layout that its length leaves unused are zero.
 fn unused_zero(bytes: &[u8]) -> bool
-    ensures { result ≡ allZero (drop (selectorLength bytes.now) (selectorBytes bytes.now)) }
+    ensures { result ≡ all_zero (drop (selector_length bytes.now) (selector_bytes bytes.now)) }
 {
     let selector = [
         byte_at(bytes, LAYOUT_SELECTOR),
@@ -126,7 +126,7 @@ fn unused_zero(bytes: &[u8]) -> bool
 }
 
 fn layout_fits(bytes: &[u8]) -> bool
-    ensures { result ≡ layoutFits bytes.now }
+    ensures { result ≡ layout_fits bytes.now }
 {
     if !selector_fits(bytes) {
         return false;
@@ -163,7 +163,7 @@ pub(crate) fn in_range(bytes: &[u8]) -> bool
 
 // Whether the key is in the SAE tables, which have SLOTs and PRNs. Only the key is read: to read the whole row takes longer.
 pub(crate) fn in_sae(bytes: &[u8]) -> bool
-    ensures { result ≡ inSae bytes.now }
+    ensures { result ≡ in_sae bytes.now }
 {
     let kind = byte_at(bytes, 0);
     if kind == SLOT {

@@ -1,6 +1,6 @@
 // Rows of PRNs and SLOTs, of tables and records alike, and the ranges of their fields: document 01, "The supplement".
 ghost use Rattle.std.specs.Prelude.{◌≡◌, ◌+◌, ◌%◌, ◌^◌};
-ghost use Rattle.catalogue.specs.Rows.{keyFits, inOrder, prnFits, slotFits};
+ghost use Rattle.catalogue.specs.Rows.{key_fits, in_order, prn_fits, slot_fits};
 
 // The forms.
 pub const UNM: u8 = 1;
@@ -60,7 +60,7 @@ pub enum SlotFound {
 
 // Whether form and width are in range.
 fn key_fits(form: u8, width: u8) -> bool
-    ensures { result ≡ keyFits form width }
+    ensures { result ≡ key_fits form width }
 {
     if form < UNM {
         return false;
@@ -83,7 +83,7 @@ fn raised(pattern: u32) -> u64
 
 // Whether the lowest raw number is not above the highest, as signed for SNM.
 pub fn in_order(form: u8, lowest: u32, highest: u32) -> bool
-    ensures { result ≡ inOrder form lowest highest }
+    ensures { result ≡ in_order form lowest highest }
 {
     if form == SNM {
         raised(lowest) <= raised(highest)
@@ -93,13 +93,13 @@ pub fn in_order(form: u8, lowest: u32, highest: u32) -> bool
 }
 
 pub(crate) fn prn_fits(row: PrnRow) -> bool
-    ensures { result ≡ prnFits row }
+    ensures { result ≡ prn_fits row }
 {
     key_fits(row.form, row.width)
 }
 
 pub(crate) fn slot_fits(row: SlotRow) -> bool
-    ensures { result ≡ slotFits row }
+    ensures { result ≡ slot_fits row }
 {
     if !key_fits(row.form, row.width) {
         return false;

@@ -1,8 +1,8 @@
 // The SAE rows by PRN, and by form, width and number.
 ghost use Rattle.std.specs.Prelude.{◌≡◌};
-ghost use Rattle.catalogue.specs.Rows.{prnOf, slot_of};
-ghost use Rattle.catalogue.specs.Search.{isFound};
-ghost use Rattle.catalogue.specs.Sae.{saePrn, saeSlot};
+ghost use Rattle.catalogue.specs.Rows.{prn_of, slot_of};
+ghost use Rattle.catalogue.specs.Search.{is_found};
+ghost use Rattle.catalogue.specs.Sae.{sae_prn, sae_slot};
 
 use crate::numbered::{prn_numbered, slot_numbered};
 use crate::rows::{PrnFound, SlotFound};
@@ -11,7 +11,7 @@ use crate::unpack::{unpacked_prn, unpacked_slot};
 
 // The SAE row of a PRN, by binary search.
 pub(crate) fn prn_row(prn: u16) -> PrnFound
-    ensures { prnOf result ≡ saePrn prn }
+    ensures { prn_of result ≡ sae_prn prn }
 {
     let mut low: usize = 0;
     let mut high = PRN_COUNT;
@@ -33,7 +33,7 @@ pub(crate) fn prn_row(prn: u16) -> PrnFound
 
 // The SAE row of a SLOT, whose key is one number: form, then width, then number.
 pub(crate) fn slot_row(form: u8, width: u8, number: u16) -> SlotFound
-    ensures { slot_of result ≡ saeSlot form width number }
+    ensures { slot_of result ≡ sae_slot form width number }
 {
     if HIGHEST_NUMBER < number {
         return SlotFound::Missing;
@@ -59,7 +59,7 @@ pub(crate) fn slot_row(form: u8, width: u8, number: u16) -> SlotFound
 
 // Whether a PRN is in the SAE tables.
 pub(crate) fn has_prn(prn: u16) -> bool
-    ensures { result ≡ isFound (saePrn prn) }
+    ensures { result ≡ is_found (sae_prn prn) }
 {
     let found = prn_row(prn);
     match found {
@@ -70,7 +70,7 @@ pub(crate) fn has_prn(prn: u16) -> bool
 
 // Whether a SLOT is in the SAE tables.
 pub(crate) fn has_slot(form: u8, width: u8, number: u16) -> bool
-    ensures { result ≡ isFound (saeSlot form width number) }
+    ensures { result ≡ is_found (sae_slot form width number) }
 {
     let found = slot_row(form, width, number);
     match found {

@@ -1,11 +1,11 @@
 // A supplement as a run of records: the search for a key, and the test.
 ghost use Rattle.std.specs.Prelude.{◌≡◌, true, [], ◌∷◌, ◌++◌, ◌+◌, ◌≤◌, ◌<◌, length, get_or};
-ghost use Rattle.frame.specs.Refusal.{NoRefusal};
-ghost use Rattle.catalogue.specs.Search.{isFound};
-ghost use Rattle.catalogue.specs.Kind.{recordSize, keySize, known};
-ghost use Rattle.catalogue.specs.Record.{recordKind, key_of, recordWith, fault};
-ghost use Rattle.catalogue.specs.Supplement.{recordsOf, LargestSupplement, check};
-ghost use Rattle.catalogue.specs.Contracts.{recordFrom, recordAt, recordIn, Spanned, Covers};
+ghost use Rattle.frame.specs.Refusal.{no_refusal};
+ghost use Rattle.catalogue.specs.Search.{is_found};
+ghost use Rattle.catalogue.specs.Kind.{record_size, key_size, known};
+ghost use Rattle.catalogue.specs.Record.{record_kind, key_of, record_with, fault};
+ghost use Rattle.catalogue.specs.Supplement.{records_of, largest_supplement, check};
+ghost use Rattle.catalogue.specs.Inner.{record_from, record_at, record_in, Spanned, Covers};
 
 use crate::filter::mark;
 use crate::kind::{key_size, record_size};
@@ -46,8 +46,8 @@ pub struct Checked {
 
 // The end of the record that starts at a place, by its size.
 fn end_of(s: &[u8], at: usize, size: usize) -> usize
-    requires { (at < length s.now) × (size ≡ recordSize (get_or s.now at 0)) }
-    ensures { result ≡ at + length (recordFrom s.now at) }
+    requires { (at < length s.now) × (size ≡ record_size (get_or s.now at 0)) }
+    ensures { result ≡ at + length (record_from s.now at) }
 {
     if size < s.len() - at {
         at + size
@@ -59,14 +59,14 @@ fn end_of(s: &[u8], at: usize, size: usize) -> usize
 // The same by the place alone.
 fn record_end(s: &[u8], at: usize) -> usize
     requires { at < length s.now }
-    ensures { result ≡ at + length (recordFrom s.now at) }
+    ensures { result ≡ at + length (record_from s.now at) }
 {
     end_of(s, at, record_size(s[at]))
 }
 
 // The first record with that kind and key. Neighbours are mostly of one kind, so a size serves until the kind changes.
 fn find_record(s: &[u8], key: &[u8]) -> RecordFound
-    ensures found { recordAt s.now result ≡ recordWith key.now (recordsOf s.now) }
+    ensures found { record_at s.now result ≡ record_with key.now (records_of s.now) }
     ensures spanned { Spanned s.now result }
 {
     let mut at: usize = 0;
@@ -89,7 +89,7 @@ fn find_record(s: &[u8], key: &[u8]) -> RecordFound
 
 // The bytes of the first record with that kind and key; no bytes if there is none.
 pub(crate) fn bytes_with<'a>(s: &'a [u8], key: &[u8]) -> &'a [u8]
-    ensures { recordIn result.now ≡ recordWith key.now (recordsOf s.now) }
+    ensures { record_in result.now ≡ record_with key.now (records_of s.now) }
 {
     let found = find_record(s, key);
     match found {
@@ -100,8 +100,8 @@ pub(crate) fn bytes_with<'a>(s: &'a [u8], key: &[u8]) -> &'a [u8]
 
 // Whether a record with the same kind and key stands among those seen.
 fn seen_before(seen: &[u8], bytes: &[u8]) -> bool
-    requires { keySize (recordKind bytes.now) ≤ length bytes.now }
-    ensures { result ≡ isFound (recordWith (key_of bytes.now) (recordsOf seen.now)) }
+    requires { key_size (record_kind bytes.now) ≤ length bytes.now }
+    ensures { result ≡ is_found (record_with (key_of bytes.now) (records_of seen.now)) }
 {
     let size = key_size(byte_at(bytes, 0));
     let found = find_record(seen, &bytes[..size]);
@@ -113,11 +113,11 @@ fn seen_before(seen: &[u8], bytes: &[u8]) -> bool
 
 // The same, searched only where the filter of those seen can't say that the key is new. The filter then has the key too.
 fn repeats(seen: &[u8], bytes: &[u8], filter: &mut [u64]) -> bool
-    requires known { known (recordKind bytes.now) ≡ true }
-    requires whole { recordSize (recordKind bytes.now) ≤ length bytes.now }
-    requires covered { Covers filter.old (recordsOf seen.now) }
-    ensures found { result ≡ isFound (recordWith (key_of bytes.now) (recordsOf seen.now)) }
-    ensures covered { Covers filter.new (recordsOf seen.now ++ bytes.now ∷ []) }
+    requires known { known (record_kind bytes.now) ≡ true }
+    requires whole { record_size (record_kind bytes.now) ≤ length bytes.now }
+    requires covered { Covers filter.old (records_of seen.now) }
+    ensures found { result ≡ is_found (record_with (key_of bytes.now) (records_of seen.now)) }
+    ensures covered { Covers filter.new (records_of seen.now ++ bytes.now ∷ []) }
 {
     let size = key_size(byte_at(bytes, 0));
     if mark(filter, &bytes[..size]) {
@@ -129,9 +129,9 @@ fn repeats(seen: &[u8], bytes: &[u8], filter: &mut [u64]) -> bool
 
 // The lowest refusal that applies to a record after those seen, or 0.
 fn fault_of(seen: &[u8], bytes: &[u8], filter: &mut [u64]) -> u8
-    requires { Covers filter.old (recordsOf seen.now) }
-    ensures told { result ≡ fault (recordsOf seen.now) bytes.now }
-    ensures covered { result ≡ NoRefusal → Covers filter.new (recordsOf seen.now ++ bytes.now ∷ []) }
+    requires { Covers filter.old (records_of seen.now) }
+    ensures told { result ≡ fault (records_of seen.now) bytes.now }
+    ensures covered { result ≡ no_refusal → Covers filter.new (records_of seen.now ++ bytes.now ∷ []) }
 {
     let size = record_size(byte_at(bytes, 0));
     if size <= 1 {
@@ -154,7 +154,7 @@ fn fault_of(seen: &[u8], bytes: &[u8], filter: &mut [u64]) -> u8
 
 // The test of records with any filter, whatever its length and its bits.
 fn check_records(s: &[u8], filter: &mut [u64]) -> Checked
-    requires { length s.now ≤ LargestSupplement }
+    requires { length s.now ≤ largest_supplement }
     ensures { result ≡ check s.now }
 {
     let mut at: usize = 0;

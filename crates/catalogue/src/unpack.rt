@@ -1,7 +1,7 @@
 // The rows of the SAE tables as they stand in the code.
 ghost use Rattle.std.specs.Prelude.{◌≡◌, get_or};
-ghost use Rattle.catalogue.specs.Tables.{prnRows, slotRows};
-ghost use Rattle.catalogue.specs.Unpack.{prnIn, slotIn, noPrn, no_slot, prnsIn, slotsIn, prnUnpacked, slotUnpacked};
+ghost use Rattle.catalogue.specs.Tables.{prn_rows, slot_rows};
+ghost use Rattle.catalogue.specs.Unpack.{prn_in, slot_in, no_prn, no_slot, prns_in, slots_in, prn_unpacked, slot_unpacked};
 
 use crate::numbers::{two_at, word_at};
 use crate::rows::{PrnRow, SlotRow};
@@ -27,7 +27,7 @@ pub struct PackedSlot {
 }
 
 fn packed_prn(row: &[u8]) -> PackedPrn
-    ensures { prnUnpacked result ≡ prnIn row.now }
+    ensures { prn_unpacked result ≡ prn_in row.now }
 {
     let width = byte_at(row, 3);
     let slot = byte_at(row, 4);
@@ -39,7 +39,7 @@ fn packed_prn(row: &[u8]) -> PackedPrn
 }
 
 fn packed_slot(row: &[u32]) -> PackedSlot
-    ensures { slotUnpacked result ≡ slotIn row.now }
+    ensures { slot_unpacked result ≡ slot_in row.now }
 {
     PackedSlot {
         key: word_at(row, 0),
@@ -52,9 +52,9 @@ fn packed_slot(row: &[u32]) -> PackedSlot
 
 // The row of a number, or an empty one past the last. `here` is that number again, as the compiler may know it.
 pub(crate) fn prn_in(rows: &[u8], number: usize, here: usize) -> PackedPrn
-    requires rows_value { prnsIn rows.now ≡ prnRows }
+    requires rows_value { prns_in rows.now ≡ prn_rows }
     requires number_value { number ≡ here }
-    ensures { prnUnpacked result ≡ get_or prnRows number noPrn }
+    ensures { prn_unpacked result ≡ get_or prn_rows number no_prn }
 {
     if here < rows.len() / PRN_SIZE {
         let at = here * PRN_SIZE;
@@ -65,9 +65,9 @@ pub(crate) fn prn_in(rows: &[u8], number: usize, here: usize) -> PackedPrn
 }
 
 pub(crate) fn slot_in(rows: &[u32], number: usize, here: usize) -> PackedSlot
-    requires rows_value { slotsIn rows.now ≡ slotRows }
+    requires rows_value { slots_in rows.now ≡ slot_rows }
     requires number_value { number ≡ here }
-    ensures { slotUnpacked result ≡ get_or slotRows number no_slot }
+    ensures { slot_unpacked result ≡ get_or slot_rows number no_slot }
 {
     if here < rows.len() / SLOT_SIZE {
         let at = here * SLOT_SIZE;
@@ -78,7 +78,7 @@ pub(crate) fn slot_in(rows: &[u32], number: usize, here: usize) -> PackedSlot
 }
 
 pub(crate) fn unpacked_prn(row: PackedPrn) -> PrnRow
-    ensures { result ≡ prnUnpacked row }
+    ensures { result ≡ prn_unpacked row }
 {
     PrnRow {
         prn: row.prn,
@@ -89,7 +89,7 @@ pub(crate) fn unpacked_prn(row: PackedPrn) -> PrnRow
 }
 
 pub(crate) fn unpacked_slot(row: PackedSlot) -> SlotRow
-    ensures { result ≡ slotUnpacked row }
+    ensures { result ≡ slot_unpacked row }
 {
     SlotRow {
         form: (row.key >> 24) as u8,

@@ -8,17 +8,17 @@ use borrow.Author.Tests.{le-ltb}
 use lib.ListN.{length, length-append}
 use Rattle.frame.specs.Bytes.{Bytes}
 use Rattle.frame.specs.Seal.{OneChanged}
-use Rattle.frame.specs.CheckByte.{checkByte}
-use Rattle.frame.specs.Header.{ThreeByteForm}
-use Rattle.frame.specs.Frame.{Parts, MostBytes}
-use Rattle.frame.specs.Refusal.{refused, accepted, outcome, CheckWrong}
-use Rattle.frame.specs.Reader.{readFrame}
-use Rattle.frame.specs.Iso.{sumByte, isoReadRules, isoReadRefusal, isoParts, readIso}
-use Rattle.frame.proofs.seal.Laws.{one-changed}
-use Rattle.frame.proofs.check_byte.Laws.{register-detects}
-use Rattle.frame.proofs.iso.Laws.{sum-detects}
+use Rattle.frame.specs.CheckByte.{check_byte}
+use Rattle.frame.specs.Header.{three_byte_form}
+use Rattle.frame.specs.Frame.{Parts, most_bytes}
+use Rattle.frame.specs.Refusal.{refused, accepted, outcome, check_wrong}
+use Rattle.frame.specs.Reader.{read_frame}
+use Rattle.frame.specs.Iso.{sum_byte, iso_read_rules, iso_read_refusal, iso_parts, read_iso}
+use Rattle.frame.proofs.seal.Laws.{one_changed}
+use Rattle.frame.proofs.check_byte.Laws.{register_detects}
+use Rattle.frame.proofs.iso.Laws.{sum_detects}
 use Rattle.frame.proofs.refusal.Laws.{broken, kept}
-use Rattle.frame.proofs.RoundTrip.{frame-accepted-exactly}
+use Rattle.frame.proofs.RoundTrip.{frame_accepted_exactly}
 use Rattle.frame.proofs.IsoRoundTrip as iso
 
 same_length : (s t : List ℕ) → OneChanged s t → length s ≡ length t
@@ -33,33 +33,33 @@ same_length s t o =
 
 -- "an accepted message, or first run, with exactly one byte changed, whichever of its bits, is never accepted": on J1850, whatever
 -- response follows.
-pub first-run-changed :
+pub first_run_changed :
     (first other response behind : List ℕ) (p q : Parts)
     → Bytes first
     → Bytes other
     → OneChanged first other
-    → readFrame first response ≡ accepted p
-    → readFrame other behind ≡ accepted q
+    → read_frame first response ≡ accepted p
+    → read_frame other behind ≡ accepted q
     → ⊥
-first-run-changed first other response behind p q bf bo o e f =
-    let was = ((frame-accepted-exactly first response).0 (p, e)).check in
-    let is = ((frame-accepted-exactly other behind).0 (q, f)).check in
-    true≢false (sym is ∙ one-changed checkByte register-detects first other bf bo o was)
+first_run_changed first other response behind p q bf bo o e f =
+    let was = ((frame_accepted_exactly first response).0 (p, e)).check in
+    let is = ((frame_accepted_exactly other behind).0 (q, f)).check in
+    true≢false (sym is ∙ one_changed check_byte register_detects first other bf bo o was)
 
 -- "on ISO 9141-2 it is refused with 3"
-pub message-changed :
+pub message_changed :
     (run other : List ℕ) (p : Parts)
     → Bytes run
     → Bytes other
     → OneChanged run other
-    → readIso run ≡ accepted p
-    → readIso other ≡ refused CheckWrong
-unfolding readIso isoReadRefusal isoReadRules
-message-changed run other p br bo o e =
-    let was = (iso.frame-accepted-exactly run).0 (p, e) in
+    → read_iso run ≡ accepted p
+    → read_iso other ≡ refused check_wrong
+unfolding read_iso iso_read_refusal iso_read_rules
+message_changed run other p br bo o e =
+    let was = (iso.frame_accepted_exactly run).0 (p, e) in
     let size = same_length run other o in
-    let found = one-changed sumByte sum-detects run other br bo o was.check in
-    ap (λ (n : ℕ). outcome n (isoParts other))
-    (kept _ _ (le-ltb MostBytes (length other) (omega (arith, was.most)))
-    ∙ kept _ _ (le-ltb (length other) (ThreeByteForm + 1) (omega (arith, was.long)))
+    let found = one_changed sum_byte sum_detects run other br bo o was.check in
+    ap (λ (n : ℕ). outcome n (iso_parts other))
+    (kept _ _ (le-ltb most_bytes (length other) (omega (arith, was.most)))
+    ∙ kept _ _ (le-ltb (length other) (three_byte_form + 1) (omega (arith, was.long)))
     ∙ broken _ _ (ap not found))

@@ -7,21 +7,21 @@ use Rattle.frame.specs.declared.frame.Writing.TheVariants.{Written}
 use Rattle.frame.specs.declared.frame.Writing.TheVariants as writing
 use Rattle.frame.specs.declared.response.ResponseKind.{ResponseKind}
 use Rattle.frame.specs.Bytes.{placed}
-use Rattle.frame.specs.Header.{OneByteForm}
+use Rattle.frame.specs.Header.{one_byte_form}
 use Rattle.frame.specs.Refusal.{Outcome, refused, accepted}
-use Rattle.frame.specs.Response.{kindNumber, isChecked, KindData}
+use Rattle.frame.specs.Response.{kind_number, is_checked, kind_data}
 
 -- "All bytes of both runs together number at most 12."
-abbrev pub MostBytes : ℕ
-MostBytes = 12
+abbrev pub most_bytes : ℕ
+most_bytes = 12
 
 -- Two byte runs, before and after EOD; where a bus has no response, the second is empty.
 pub record Frame : Type 0 where
   pub first : List ℕ
   pub response : List ℕ
 
-abbrev pub frameSize : Frame → ℕ
-frameSize f = length f.first + length f.response
+abbrev pub frame_size : Frame → ℕ
+frame_size f = length f.first + length f.response
 
 -- The parts of a frame, without check bytes; `body` is the data.
 pub record Parts : Type 0 where
@@ -37,7 +37,7 @@ parts_at n run kind response =
 
 -- Document 000's limits on data and response data together, by header bytes: sections 5.1 and 5.2.1.5. Kind 3 has one byte less.
 abbrev pub limit : ResponseKind → ℕ → ℕ
-limit kind n = cond (isChecked kind) (cond (eqb n OneByteForm) 9 7) (cond (eqb n OneByteForm) 10 8)
+limit kind n = cond (is_checked kind) (cond (eqb n one_byte_form) 9 7) (cond (eqb n one_byte_form) 10 8)
 
 -- What a reader hands over of the parts: how long each is, and the kind's number.
 pub record Sizes : Type 0 where
@@ -49,7 +49,7 @@ pub record Sizes : Type 0 where
 abbrev pub sizes : Outcome Parts → Outcome Sizes
 sizes (refused n) = refused n
 sizes (accepted p) =
-    accepted (record { header = length p.header; body = length p.body; kind = kindNumber p.kind; response = length p.response })
+    accepted (record { header = length p.header; body = length p.body; kind = kind_number p.kind; response = length p.response })
 
 -- The number and the values of each case of the readers' enum.
 abbrev pub reading_of : Reading → Outcome Sizes
@@ -62,10 +62,10 @@ pub record Handed (first response : List ℕ) (p : Parts) : Type 0 where
   pub header : p.header ≡ take (length p.header) first
   pub body : p.body ≡ take (length p.body) (drop (length p.header) first)
   pub whole : length p.header + length p.body + 1 ≡ length first
-  pub kind : kindNumber p.kind ≤ KindData
+  pub kind : kind_number p.kind ≤ kind_data
   pub behind : p.response ≡ take (length p.response) response
   pub within : length p.response ≤ length response
-  pub most : length first + length response ≤ MostBytes
+  pub most : length first + length response ≤ most_bytes
 
 -- What a writer hands over of a frame: the length of each run.
 pub record Runs : Type 0 where
@@ -77,11 +77,11 @@ runs (refused n) = refused n
 runs (accepted f) = accepted (record { first = length f.first; response = length f.response })
 
 -- The number and the values of each case of the writers' enum.
-abbrev pub writingOf : Writing → Outcome Runs
-writingOf (writing.Refused n) = refused n
-writingOf (Written f r) = accepted (record { first = f; response = r })
+abbrev pub writing_of : Writing → Outcome Runs
+writing_of (writing.Refused n) = refused n
+writing_of (Written f r) = accepted (record { first = f; response = r })
 
 -- Lent output afterwards: the first run, then the response, at its start; refused, as it was.
-abbrev pub outWritten : Outcome Frame → List ℕ → List ℕ
-outWritten (refused n) out = out
-outWritten (accepted f) out = placed out 0 (f.first ++ f.response)
+abbrev pub out_written : Outcome Frame → List ℕ → List ℕ
+out_written (refused n) out = out
+out_written (accepted f) out = placed out 0 (f.first ++ f.response)

@@ -1,6 +1,6 @@
 // The SAE J1850 check byte, one bit of the register at a time.
 ghost use Rattle.std.specs.Prelude.{◌≡◌};
-ghost use Rattle.frame.specs.CheckByte.{step, feed, checkByte, isSealed};
+ghost use Rattle.frame.specs.CheckByte.{step, feed, check_byte, is_sealed};
 
 // "polynomial x^8+x^4+x^3+x^2+1": its terms below x^8.
 const POLYNOMIAL: u8 = 0x1D;
@@ -36,7 +36,7 @@ fn feed(r: u8, b: u8) -> u8
 
 // The check byte of a run: the complement of the register that started all ones.
 pub fn check_byte(run: &[u8]) -> u8
-    ensures { result ≡ checkByte run.now }
+    ensures { result ≡ check_byte run.now }
 {
     let mut r: u8 = ALL_ONES;
     let mut i: usize = 0;
@@ -49,7 +49,7 @@ pub fn check_byte(run: &[u8]) -> u8
 
 // Whether a run ends in the check byte of what stands before it.
 pub(crate) fn is_sealed(run: &[u8]) -> bool
-    ensures { result ≡ isSealed run.now }
+    ensures { result ≡ is_sealed run.now }
 {
     let n = run.len();
     if n == 0 {

@@ -1,6 +1,6 @@
 // How many bytes a response may have, for reader and writer.
 ghost use Rattle.std.specs.Prelude.{◌≡◌};
-ghost use Rattle.frame.specs.Count.{bytesNeeded, countRefusal};
+ghost use Rattle.frame.specs.Count.{bytes_needed, count_refusal};
 
 use crate::refusal::{
     NO_REFUSAL, RESPONSE_FORBIDDEN, RESPONSE_MISSING, RESPONSE_TOO_FEW, RESPONSE_TOO_MANY,
@@ -15,7 +15,7 @@ pub(crate) const DATA_GIVEN: usize = 1;
 
 // The least that a kind needs; of_data is what kind 3 needs.
 fn bytes_needed(kind: ResponseKind, of_data: usize) -> usize
-    ensures { result ≡ bytesNeeded kind of_data }
+    ensures { result ≡ bytes_needed kind of_data }
 {
     match kind {
         ResponseKind::Empty => 0,
@@ -28,7 +28,7 @@ fn bytes_needed(kind: ResponseKind, of_data: usize) -> usize
 
 // The first of the refusals 50 to 53 that applies to a response of n bytes.
 pub(crate) fn count_refusal(kind: ResponseKind, of_data: usize, n: usize) -> u8
-    ensures { result ≡ countRefusal kind of_data n }
+    ensures { result ≡ count_refusal kind of_data n }
 {
     let number = kind_number(kind);
     let needed = bytes_needed(kind, of_data);

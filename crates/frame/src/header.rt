@@ -1,6 +1,6 @@
 // The header's fields, by shift and mask, and the decision over the sixteen message types.
 ghost use Rattle.std.specs.Prelude.{◌≡◌};
-ghost use Rattle.frame.specs.Header.{bitH, bitK, messageType, headerSize, responseKind, kindAsked};
+ghost use Rattle.frame.specs.Header.{bit_h, bit_k, message_type, header_size, response_kind, kind_asked};
 
 use crate::bytes::byte_at;
 use crate::response::ResponseKind;
@@ -21,26 +21,26 @@ const K_PLACE: u8 = 3;
 const TYPE_BITS: u8 = 0x0F;
 
 pub(crate) fn bit_h(b: u8) -> u8
-    ensures { result ≡ bitH b }
+    ensures { result ≡ bit_h b }
 {
     (b >> H_PLACE) & 1
 }
 
 pub(crate) fn bit_k(b: u8) -> u8
-    ensures { result ≡ bitK b }
+    ensures { result ≡ bit_k b }
 {
     (b >> K_PLACE) & 1
 }
 
 pub(crate) fn message_type(b: u8) -> u8
-    ensures { result ≡ messageType b }
+    ensures { result ≡ message_type b }
 {
     b & TYPE_BITS
 }
 
 // How many header bytes H asks for.
 pub fn header_size(run: &[u8]) -> usize
-    ensures { result ≡ headerSize run.now }
+    ensures { result ≡ header_size run.now }
 {
     if bit_h(byte_at(run, 0)) == 0 {
         THREE_BYTE_FORM
@@ -51,7 +51,7 @@ pub fn header_size(run: &[u8]) -> usize
 
 // All sixteen types, one by one; no other number is a type.
 pub(crate) fn response_kind(t: u8) -> ResponseKind
-    ensures { result ≡ responseKind t }
+    ensures { result ≡ response_kind t }
 {
     match t {
         0 => ResponseKind::Several,
@@ -76,7 +76,7 @@ pub(crate) fn response_kind(t: u8) -> ResponseKind
 
 // The response kind that a run's first byte asks for.
 pub(crate) fn kind_asked(run: &[u8]) -> ResponseKind
-    ensures { result ≡ kindAsked run.now }
+    ensures { result ≡ kind_asked run.now }
 {
     response_kind(message_type(byte_at(run, 0)))
 }

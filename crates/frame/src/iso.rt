@@ -1,7 +1,7 @@
 // Messages of ISO 9141-2: the sum byte, reading a run to the sizes of its parts, writing parts to a run in lent memory.
 ghost use Rattle.std.specs.Prelude.{◌≡◌, ◌+◌, ◌%◌, length};
-ghost use Rattle.frame.specs.Frame.{sizes, reading_of, runs, writingOf, outWritten};
-ghost use Rattle.frame.specs.Iso.{sumByte, wrongFirst, isoReadRefusal, readIso, isoWriteRefusal, writeIso};
+ghost use Rattle.frame.specs.Frame.{sizes, reading_of, runs, writing_of, out_written};
+ghost use Rattle.frame.specs.Iso.{sum_byte, wrong_first, iso_read_refusal, read_iso, iso_write_refusal, write_iso};
 
 use crate::bytes::{byte_at, put_both};
 use crate::frame::{MOST_BYTES, Reading, Writing};
@@ -25,7 +25,7 @@ fn added(sum: u8, b: u8) -> u8
 
 // The sum of a run's bytes modulo 256.
 pub(crate) fn sum_byte(run: &[u8]) -> u8
-    ensures { result ≡ sumByte run.now }
+    ensures { result ≡ sum_byte run.now }
 {
     let mut sum: u8 = 0;
     let mut i: usize = 0;
@@ -38,7 +38,7 @@ pub(crate) fn sum_byte(run: &[u8]) -> u8
 
 // Whether a run's first byte has H = 1 or K = 0.
 fn wrong_first(run: &[u8]) -> bool
-    ensures { result ≡ wrongFirst run.now }
+    ensures { result ≡ wrong_first run.now }
 {
     let b = byte_at(run, 0);
     bit_h(b) == 1 || bit_k(b) == 0
@@ -46,7 +46,7 @@ fn wrong_first(run: &[u8]) -> bool
 
 // The first of the refusals 1, 2, 3, 9 that applies.
 fn read_refusal(run: &[u8]) -> u8
-    ensures { result ≡ isoReadRefusal run.now }
+    ensures { result ≡ iso_read_refusal run.now }
 {
     let n = run.len();
     if MOST_BYTES < n {
@@ -67,7 +67,7 @@ fn read_refusal(run: &[u8]) -> u8
 
 // Reads any run: refused, or the parts of an accepted message.
 pub fn read_iso(run: &[u8]) -> Reading
-    ensures { reading_of result ≡ sizes (readIso run.now) }
+    ensures { reading_of result ≡ sizes (read_iso run.now) }
 {
     let refusal = read_refusal(run);
     if refusal != NO_REFUSAL {
@@ -83,7 +83,7 @@ pub fn read_iso(run: &[u8]) -> Reading
 
 // The first of the refusals 7, 9, 1, 8 that applies.
 fn write_refusal(header: &[u8], body: &[u8], room: usize) -> u8
-    ensures { result ≡ isoWriteRefusal header.now body.now room }
+    ensures { result ≡ iso_write_refusal header.now body.now room }
 {
     if header.len() != THREE_BYTE_FORM {
         return HEADER_WRONG;
@@ -103,8 +103,8 @@ fn write_refusal(header: &[u8], body: &[u8], room: usize) -> u8
 
 // Writes any parts: refused with `out` untouched, or the message at the start of `out`.
 pub fn write_iso(header: &[u8], body: &[u8], out: &mut [u8]) -> Writing
-    ensures told { writingOf result ≡ runs (writeIso header.now body.now (length out.old)) }
-    ensures left { out.new ≡ outWritten (writeIso header.now body.now (length out.old)) out.old }
+    ensures told { writing_of result ≡ runs (write_iso header.now body.now (length out.old)) }
+    ensures left { out.new ≡ out_written (write_iso header.now body.now (length out.old)) out.old }
 {
     let refusal = write_refusal(header, body, out.len());
     if refusal != NO_REFUSAL {

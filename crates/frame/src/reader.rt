@@ -1,7 +1,7 @@
 // Reading a frame of J1850: two byte runs to the sizes of its parts.
 ghost use Rattle.std.specs.Prelude.{◌≡◌};
 ghost use Rattle.frame.specs.Frame.{sizes, reading_of};
-ghost use Rattle.frame.specs.Reader.{readRefusal, readFrame};
+ghost use Rattle.frame.specs.Reader.{read_refusal, read_frame};
 
 use crate::check_byte::is_sealed;
 use crate::count::{DATA_SENT, count_refusal};
@@ -14,7 +14,7 @@ use crate::response::{is_checked, is_unassigned, kind_number, response_size};
 
 // The first of the refusals 1, 2, 3, 4, 50, 51, 52, 53, 6 that applies.
 fn read_refusal(first: &[u8], response: &[u8]) -> u8
-    ensures { result ≡ readRefusal first.now response.now }
+    ensures { result ≡ read_refusal first.now response.now }
 {
     let n = first.len();
     let m = response.len();
@@ -45,7 +45,7 @@ fn read_refusal(first: &[u8], response: &[u8]) -> u8
 
 // Reads any two runs: refused, or the parts of an accepted frame.
 pub fn read_frame(first: &[u8], response: &[u8]) -> Reading
-    ensures { reading_of result ≡ sizes (readFrame first.now response.now) }
+    ensures { reading_of result ≡ sizes (read_frame first.now response.now) }
 {
     let refusal = read_refusal(first, response);
     if refusal != NO_REFUSAL {

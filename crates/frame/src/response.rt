@@ -1,6 +1,6 @@
 // The response: its kind, and its bytes without check byte.
 ghost use Rattle.std.specs.Prelude.{◌≡◌};
-ghost use Rattle.frame.specs.Response.{kindNumber, isUnassigned, isChecked, responseSize};
+ghost use Rattle.frame.specs.Response.{kind_number, is_unassigned, is_checked, response_size};
 
 // What response a message type asks for: document 000, table 5.
 #[derive(Drop)]
@@ -28,7 +28,7 @@ pub const KIND_DATA: u8 = 3;
 const KIND_NONE: u8 = 4;
 
 pub(crate) fn kind_number(kind: ResponseKind) -> u8
-    ensures { result ≡ kindNumber kind }
+    ensures { result ≡ kind_number kind }
 {
     match kind {
         ResponseKind::Empty => KIND_EMPTY,
@@ -40,20 +40,20 @@ pub(crate) fn kind_number(kind: ResponseKind) -> u8
 }
 
 pub(crate) fn is_unassigned(kind: ResponseKind) -> bool
-    ensures { result ≡ isUnassigned kind }
+    ensures { result ≡ is_unassigned kind }
 {
     kind_number(kind) == KIND_NONE
 }
 
 pub(crate) fn is_checked(kind: ResponseKind) -> bool
-    ensures { result ≡ isChecked kind }
+    ensures { result ≡ is_checked kind }
 {
     kind_number(kind) == KIND_DATA
 }
 
 // How many of a response's n bytes are not its check byte.
 pub(crate) fn response_size(kind: ResponseKind, n: usize) -> usize
-    ensures { result ≡ responseSize kind n }
+    ensures { result ≡ response_size kind n }
 {
     if is_checked(kind) {
         if n == 0 { 0 } else { n - 1 }

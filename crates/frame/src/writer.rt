@@ -1,10 +1,10 @@
 // Writing a frame of J1850: parts without check bytes to two byte runs in lent memory.
 ghost use Rattle.std.specs.Prelude.{◌≡◌, ◌∷◌, [], ◌++◌, ◌+◌, ◌-◌, ◌≤◌, ◌<◌, length, take, drop};
 ghost use Rattle.frame.specs.Bytes.{placed};
-ghost use Rattle.frame.specs.CheckByte.{checkByte, sealed};
+ghost use Rattle.frame.specs.CheckByte.{check_byte, sealed};
 ghost use Rattle.frame.specs.Response.{sent};
-ghost use Rattle.frame.specs.Frame.{frameSize, runs, writingOf, outWritten, MostBytes};
-ghost use Rattle.frame.specs.Writer.{frame_of, writeRefusal, writeFrame};
+ghost use Rattle.frame.specs.Frame.{frame_size, runs, writing_of, out_written, most_bytes};
+ghost use Rattle.frame.specs.Writer.{frame_of, write_refusal, write_frame};
 
 use crate::bytes::{put, put_both};
 use crate::check_byte::check_byte;
@@ -16,8 +16,8 @@ use crate::response::{ResponseKind, is_checked, is_unassigned};
 
 // How many bytes the parts make with their check bytes.
 fn frame_size(header: &[u8], body: &[u8], response: &[u8]) -> usize
-    requires { (length header.now ≤ MostBytes) × (length body.now ≤ MostBytes) × (length response.now ≤ MostBytes) }
-    ensures { result ≡ frameSize (frame_of header.now body.now response.now) }
+    requires { (length header.now ≤ most_bytes) × (length body.now ≤ most_bytes) × (length response.now ≤ most_bytes) }
+    ensures { result ≡ frame_size (frame_of header.now body.now response.now) }
 {
     let n = header.len() + body.len() + 1 + response.len();
     if is_checked(kind_asked(header)) {
@@ -29,7 +29,7 @@ fn frame_size(header: &[u8], body: &[u8], response: &[u8]) -> usize
 
 // The first of the refusals 7, 4, 50, 51, 53, 1, 8 that applies.
 fn write_refusal(header: &[u8], body: &[u8], response: &[u8], room: usize) -> u8
-    ensures { result ≡ writeRefusal header.now body.now response.now room }
+    ensures { result ≡ write_refusal header.now body.now response.now room }
 {
     if header.len() != header_size(header) {
         return HEADER_WRONG;
@@ -62,7 +62,7 @@ fn write_refusal(header: &[u8], body: &[u8], response: &[u8], room: usize) -> u8
 // Puts the check byte of what stands between two places of out at the second.
 fn seal(out: &mut [u8], from: usize, end: usize)
     requires { (from ≤ end) × (end < length out.old) }
-    ensures { out.new ≡ placed out.old end (checkByte (take (end - from) (drop from out.old)) ∷ []) }
+    ensures { out.new ≡ placed out.old end (check_byte (take (end - from) (drop from out.old)) ∷ []) }
 {
     let b = check_byte(&out[from..end]);
     out[end] = b;
@@ -97,8 +97,8 @@ fn put_response(kind: ResponseKind, response: &[u8], out: &mut [u8], at: usize) 
 
 // Writes any parts: refused with `out` untouched, or the first run and then the response in `out`.
 pub fn write_frame(header: &[u8], body: &[u8], response: &[u8], out: &mut [u8]) -> Writing
-    ensures told { writingOf result ≡ runs (writeFrame header.now body.now response.now (length out.old)) }
-    ensures left { out.new ≡ outWritten (writeFrame header.now body.now response.now (length out.old)) out.old }
+    ensures told { writing_of result ≡ runs (write_frame header.now body.now response.now (length out.old)) }
+    ensures left { out.new ≡ out_written (write_frame header.now body.now response.now (length out.old)) out.old }
 {
     let refusal = write_refusal(header, body, response, out.len());
     if refusal != NO_REFUSAL {

@@ -38,7 +38,7 @@ const FILLING: u8 = 0xA5;
 const WORD_DIGITS: usize = 16;
 
 fn length_at(line: &[u8], at: usize) -> usize {
-    hex::byte_from(line, at) as usize
+    hex_text::byte_from(line, at) as usize
 }
 
 // The sixteen bytes of a run, whatever its length.
@@ -48,7 +48,7 @@ fn run_at(line: &[u8], at: usize) -> [u8; RUN]
 {
     let start = at + TO_RUN;
     let mut run = [0u8; RUN];
-    hex::fill(&line[start..], &mut run);
+    hex_text::fill(&line[start..], &mut run);
     run
 }
 
@@ -58,18 +58,18 @@ fn show_word(word: u64) {
 
 fn show_buffer(bytes: &[u8; BUFFER]) {
     let mut text = [0u8; TEXT];
-    hex::write_text(bytes, &mut text);
+    hex_text::write_text(bytes, &mut text);
     io::write_all(STDOUT_FILENO, &text);
 }
 
 fn read_case(line: &[u8; LINE]) {
     let first = run_at(line, FIRST);
     let response = run_at(line, SECOND);
-    let run = hex::counted(&first, length_at(line, FIRST));
+    let run = hex_text::counted(&first, length_at(line, FIRST));
     if line[0] == J1850_READ {
         show_word(c_api::rakhubole_j1850_read(
             run,
-            hex::counted(&response, length_at(line, SECOND)),
+            hex_text::counted(&response, length_at(line, SECOND)),
         ));
     } else {
         show_word(c_api::rakhubole_iso9141_read(run));
@@ -85,7 +85,7 @@ fn write_into(
     out: &mut [u8],
     room: usize,
 ) -> u64 {
-    let lent = hex::fewer(room, out.len());
+    let lent = hex_text::fewer(room, out.len());
     if call == J1850_WRITE {
         c_api::rakhubole_j1850_write(header, body, response, &mut out[..lent])
     } else {
@@ -100,9 +100,9 @@ fn write_case(line: &[u8; LINE]) {
     let mut out = [FILLING; BUFFER];
     show_word(write_into(
         line[0],
-        hex::counted(&header, length_at(line, FIRST)),
-        hex::counted(&body, length_at(line, SECOND)),
-        hex::counted(&response, length_at(line, THIRD)),
+        hex_text::counted(&header, length_at(line, FIRST)),
+        hex_text::counted(&body, length_at(line, SECOND)),
+        hex_text::counted(&response, length_at(line, THIRD)),
         &mut out,
         length_at(line, ROOM),
     ));

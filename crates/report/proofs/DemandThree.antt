@@ -7,26 +7,26 @@ use mathlib.Core.Option.{Option, none, some}
 use Prim.Native.Nat.{ℕ, zero, suc}
 use native.Mathlib.Omega.{arith}
 use lib.ListN.{length, take, get_elem?}
-use Rattle.frame.specs.Response.{kindNumber}
+use Rattle.frame.specs.Response.{kind_number}
 use Rattle.frame.specs.Frame.{Parts}
 use Rattle.catalogue.specs.Record.{LayoutRow, FullKey}
-use Rattle.catalogue.specs.Supplement.{recordsOf, Accepted, Among, NoNewSelector}
-use Rattle.catalogue.specs.Lookup.{Catalogue, Within, catalogue, lengthFor}
-use Rattle.catalogue.proofs.lookup.Laws.{layout-key-full}
+use Rattle.catalogue.specs.Supplement.{records_of, Accepted, Among, NoNewSelector}
+use Rattle.catalogue.specs.Lookup.{Catalogue, Within, catalogue, length_for}
+use Rattle.catalogue.proofs.lookup.Laws.{layout_key_full}
 use Rattle.catalogue.proofs.Accepted.{good}
-use Rattle.catalogue.proofs.Within.{supplement-within, lengths-alike}
+use Rattle.catalogue.proofs.Within.{supplement_within, lengths_alike}
 use Rattle.report.specs.declared.line.Line.{Line}
-use Rattle.report.specs.Line.{isUnknown}
-use Rattle.report.specs.Report.{Part, Message, Group, Report, keyByte, keyTarget, selectorOf, messageWith, messageOf}
-use Rattle.report.specs.Report.{group_of, groupLines, responseLine, reportOf, lines_of, verdict}
+use Rattle.report.specs.Line.{is_unknown}
+use Rattle.report.specs.Report.{Part, Message, Group, Report, key_byte, key_target, selector_of, message_with, message_of}
+use Rattle.report.specs.Report.{group_of, group_lines, response_line, report_of, lines_of, verdict}
 use Rattle.report.specs.Rows.{row}
 use Rattle.report.specs.Answer.{under}
-use Rattle.report.specs.Demand.{Name, item, remainder, response, itemIn, remainderIn, layoutIn, line_at, Lacks, Alike, Keeps}
-use Rattle.report.proofs.demand.Kept.{AllWith, Kept, GroupKept, groups-kept, groups-gone}
-use Rattle.report.proofs.demand.Covered.{Covered, covered-append, covered_same, groups-covered, verdict-clear, verdict-flagged}
+use Rattle.report.specs.Demand.{Name, item, remainder, response, item_in, remainder_in, layout_in, line_at, Lacks, Alike, Keeps}
+use Rattle.report.proofs.demand.Kept.{AllWith, Kept, GroupKept, groups_kept, groups_gone}
+use Rattle.report.proofs.demand.Covered.{Covered, covered_append, covered_same, groups_covered, verdict_clear_lem, verdict_flagged_lem}
 
-none-some : {A : Type 0} {a : A} → none ≡ some a → ⊥
-none-some e = let z : ◌≡◌ {A = ℕ} 0 1 = cc in omega arith
+none_some : {A : Type 0} {a : A} → none ≡ some a → ⊥
+none_some e = let z : ◌≡◌ {A = ℕ} 0 1 = cc in omega arith
 
 some_is : {A : Type 0} {a b : A} → some a ≡ some b → a ≡ b
 some_is e = cc
@@ -39,40 +39,40 @@ Against gone (some k) none = ⊥
 Against gone (some k) (some l) = Kept k l × (gone → ⊥)
 
 module _ (gone : Type 0) where
-  shown-same : (o q : Option Line) → Against gone o q → (l : Line) → o ≡ some l → isUnknown l ≡ false → q ≡ some l
-  shown-same none q a l e u = absurd (none-some e)
-  shown-same (some k) none a l e u = absurd a
-  shown-same (some k) (some m) a l e u =
+  shown_same : (o q : Option Line) → Against gone o q → (l : Line) → o ≡ some l → is_unknown l ≡ false → q ≡ some l
+  shown_same none q a l e u = absurd (none_some e)
+  shown_same (some k) none a l e u = absurd a
+  shown_same (some k) (some m) a l e u =
       let h : k ≡ l = some_is e in
-      ⊎_elim (λ g. ap some (sym g ∙ h)) (λ v. absurd (true≢false (sym v ∙ ap isUnknown h ∙ u))) a.0
+      ⊎_elim (λ g. ap some (sym g ∙ h)) (λ v. absurd (true≢false (sym v ∙ ap is_unknown h ∙ u))) a.0
 
-  taken-from :
+  taken_from :
       (o q : Option Line)
       → Against gone o q
       → (l : Line)
       → q ≡ some l
-      → (o ≡ some l) ⊎ (((k : Line) × (o ≡ some k) × (isUnknown k ≡ true)) ⊎ (o ≡ none))
-  taken-from none q a l e = inr (inr refl)
-  taken-from (some k) none a l e = absurd a
-  taken-from (some k) (some m) a l e = ⊎_elim (λ g. inl (ap some g ∙ e)) (λ v. inr (inl (k, refl, v))) a.0
+      → (o ≡ some l) ⊎ (((k : Line) × (o ≡ some k) × (is_unknown k ≡ true)) ⊎ (o ≡ none))
+  taken_from none q a l e = inr (inr refl)
+  taken_from (some k) none a l e = absurd a
+  taken_from (some k) (some m) a l e = ⊎_elim (λ g. inl (ap some g ∙ e)) (λ v. inr (inl (k, refl, v))) a.0
 
-  missing-when : (o q : Option Line) → Against gone o q → (l : Line) → q ≡ some l → (o ≡ none) ↔ gone
-  missing-when none none a l e = absurd (none-some e)
-  missing-when none (some m) a l e = (λ h. a, λ g. refl)
-  missing-when (some k) none a l e = absurd a
-  missing-when (some k) (some m) a l e = (λ h. absurd (none-some (sym h)), λ g. absurd (a.1 g))
+  missing_when : (o q : Option Line) → Against gone o q → (l : Line) → q ≡ some l → (o ≡ none) ↔ gone
+  missing_when none none a l e = absurd (none_some e)
+  missing_when none (some m) a l e = (λ h. a, λ g. refl)
+  missing_when (some k) none a l e = absurd a
+  missing_when (some k) (some m) a l e = (λ h. absurd (none_some (sym h)), λ g. absurd (a.1 g))
 
   -- Items that are kept one by one, and items that are gone.
-  items-against : (gone → ⊥) → (ls ms : List Line) → AllWith Kept ls ms → (i : ℕ) → Against gone (get_elem? ls i) (get_elem? ms i)
-  items-against n [] [] k i = tt
-  items-against n [] (m ∷ ms) k i = absurd k
-  items-against n (l ∷ ls) [] k i = absurd k
-  items-against n (l ∷ ls) (m ∷ ms) k zero = (k.0, n)
-  items-against n (l ∷ ls) (m ∷ ms) k (suc i) = items-against n ls ms k.1 i
+  items_against : (gone → ⊥) → (ls ms : List Line) → AllWith Kept ls ms → (i : ℕ) → Against gone (get_elem? ls i) (get_elem? ms i)
+  items_against n [] [] k i = tt
+  items_against n [] (m ∷ ms) k i = absurd k
+  items_against n (l ∷ ls) [] k i = absurd k
+  items_against n (l ∷ ls) (m ∷ ms) k zero = (k.0, n)
+  items_against n (l ∷ ls) (m ∷ ms) k (suc i) = items_against n ls ms k.1 i
 
-  gone-against : gone → (q : Option Line) → Against gone none q
-  gone-against g none = tt
-  gone-against g (some l) = g
+  gone_against : gone → (q : Option Line) → Against gone none q
+  gone_against g none = tt
+  gone_against g (some l) = g
 
 -- Two groups of the same number: both, the first kept; or neither.
 abbrev GroupsAt : Option Group → Option Group → Type 0
@@ -81,141 +81,141 @@ GroupsAt none (some h) = ⊥
 GroupsAt (some g) none = ⊥
 GroupsAt (some g) (some h) = GroupKept g h
 
-groups-at : (gs hs : List Group) → AllWith GroupKept gs hs → (n : ℕ) → GroupsAt (get_elem? gs n) (get_elem? hs n)
-groups-at [] [] k n = tt
-groups-at [] (h ∷ hs) k n = absurd k
-groups-at (g ∷ gs) [] k n = absurd k
-groups-at (g ∷ gs) (h ∷ hs) k zero = k.0
-groups-at (g ∷ gs) (h ∷ hs) k (suc n) = groups-at gs hs k.1 n
+groups_at : (gs hs : List Group) → AllWith GroupKept gs hs → (n : ℕ) → GroupsAt (get_elem? gs n) (get_elem? hs n)
+groups_at [] [] k n = tt
+groups_at [] (h ∷ hs) k n = absurd k
+groups_at (g ∷ gs) [] k n = absurd k
+groups_at (g ∷ gs) (h ∷ hs) k zero = k.0
+groups_at (g ∷ gs) (h ∷ hs) k (suc n) = groups_at gs hs k.1 n
 
-item-against : (a b : Option Group) → GroupsAt a b → (i : ℕ) → Against (layoutIn a ≡ none) (itemIn a i) (itemIn b i)
-unfolding layoutIn itemIn
-item-against none none k i = tt
-item-against none (some h) k i = absurd k
-item-against (some g) none k i = absurd k
-item-against (some g) (some h) k i =
-    ⊎_elim (λ a. items-against (g.layout ≡ none) a.1 g.items h.items a.0 i)
+item_against : (a b : Option Group) → GroupsAt a b → (i : ℕ) → Against (layout_in a ≡ none) (item_in a i) (item_in b i)
+unfolding layout_in item_in
+item_against none none k i = tt
+item_against none (some h) k i = absurd k
+item_against (some g) none k i = absurd k
+item_against (some g) (some h) k i =
+    ⊎_elim (λ a. items_against (g.layout ≡ none) a.1 g.items h.items a.0 i)
     (λ a.
     subst (λ (ls : List Line). Against (g.layout ≡ none) (get_elem? ls i) (get_elem? h.items i)) (sym a.0)
-    (gone-against (g.layout ≡ none) a.1 (get_elem? h.items i)))
+    (gone_against (g.layout ≡ none) a.1 (get_elem? h.items i)))
     k.items
 
-remainder-against : (a b : Option Group) → GroupsAt a b → Against ⊥ (remainderIn a) (remainderIn b)
-unfolding remainderIn
-remainder-against none none k = tt
-remainder-against none (some h) k = absurd k
-remainder-against (some g) none k = absurd k
-remainder-against (some g) (some h) k = (k.remainder, λ e. e)
+remainder_against : (a b : Option Group) → GroupsAt a b → Against ⊥ (remainder_in a) (remainder_in b)
+unfolding remainder_in
+remainder_against none none k = tt
+remainder_against none (some h) k = absurd k
+remainder_against (some g) none k = absurd k
+remainder_against (some g) (some h) k = (k.remainder, λ e. e)
 
 -- Two reports whose groups are kept and whose response is the same.
 module _ (old new : Report) (kept : AllWith GroupKept old.groups new.groups) (same : old.response ≡ new.response) where
   against : (n : Name) → Against (Lacks old n) (line_at old n) (line_at new n)
   unfolding line_at Lacks
-  against (item g i) = item-against _ _ (groups-at old.groups new.groups kept g) i
-  against (remainder g) = remainder-against _ _ (groups-at old.groups new.groups kept g)
+  against (item g i) = item_against _ _ (groups_at old.groups new.groups kept g) i
+  against (remainder g) = remainder_against _ _ (groups_at old.groups new.groups kept g)
   against response = (inl same, λ e. e)
 
   covered : Covered (lines_of old) (lines_of new)
   unfolding lines_of
   covered =
-      covered-append (groupLines old.groups) (groupLines new.groups) (old.response ∷ []) (new.response ∷ [])
-      (groups-covered old.groups new.groups kept)
+      covered_append (group_lines old.groups) (group_lines new.groups) (old.response ∷ []) (new.response ∷ [])
+      (groups_covered old.groups new.groups kept)
       (subst (λ (l : Line). Covered (old.response ∷ []) (l ∷ [])) same (covered_same (old.response ∷ [])))
 
-  reports-keep : Keeps old new
+  reports_keep : Keeps old new
   unfolding verdict
-  reports-keep =
-      let shown : (n : Name) (l : Line) → line_at old n ≡ some l → isUnknown l ≡ false → line_at new n ≡ some l =
-      λ n. shown-same (Lacks old n) (line_at old n) (line_at new n) (against n) in
+  reports_keep =
+      let shown : (n : Name) (l : Line) → line_at old n ≡ some l → is_unknown l ≡ false → line_at new n ≡ some l =
+      λ n. shown_same (Lacks old n) (line_at old n) (line_at new n) (against n) in
       record {
         shown = shown;
-        clear = verdict-clear _ _ covered;
-        flagged = verdict-flagged _ _ covered;
-        taken = λ n. taken-from (Lacks old n) (line_at old n) (line_at new n) (against n);
-        missing = λ n. missing-when (Lacks old n) (line_at old n) (line_at new n) (against n);
-        not-clear = λ n e. n (verdict-clear _ _ covered e);
+        clear = verdict_clear_lem _ _ covered;
+        flagged = verdict_flagged_lem _ _ covered;
+        taken = λ n. taken_from (Lacks old n) (line_at old n) (line_at new n) (against n);
+        missing = λ n. missing_when (Lacks old n) (line_at old n) (line_at new n) (against n);
+        not_clear = λ n e. n (verdict_clear_lem _ _ covered e);
         rows = λ n l k e u f. ap row (some_is (sym (shown n l e u) ∙ f));
       }
 
 -- What `Lacks` says of an item line that the second report has: the first catalogue lacks the layout.
-lacks-at :
+lacks_at :
     (c d : Catalogue) (o q : Option LayoutRow) (ps qs : List Part)
     → length ps ≡ length qs
     → (g i : ℕ) (l : Line)
-    → itemIn (get_elem? (map (group_of d q) qs) g) i ≡ some l
-    → (layoutIn (get_elem? (map (group_of c o) ps) g) ≡ none) ↔ (o ≡ none)
-unfolding itemIn layoutIn group_of
-lacks-at c d o q [] [] s g i l e = absurd (none-some e)
-lacks-at c d o q [] (p' ∷ qs) s g i l e = absurd (omega arith)
-lacks-at c d o q (p ∷ ps) [] s g i l e = absurd (none-some e)
-lacks-at c d none q (p ∷ ps) (p' ∷ qs) s zero i l e = (λ h. refl, λ h. refl)
-lacks-at c d (some k) q (p ∷ ps) (p' ∷ qs) s zero i l e = (λ h. absurd (none-some (sym h)), λ h. absurd (none-some (sym h)))
-lacks-at c d o q (p ∷ ps) (p' ∷ qs) s (suc g) i l e = lacks-at c d o q ps qs (omega arith) g i l e
+    → item_in (get_elem? (map (group_of d q) qs) g) i ≡ some l
+    → (layout_in (get_elem? (map (group_of c o) ps) g) ≡ none) ↔ (o ≡ none)
+unfolding item_in layout_in group_of
+lacks_at c d o q [] [] s g i l e = absurd (none_some e)
+lacks_at c d o q [] (p' ∷ qs) s g i l e = absurd (omega arith)
+lacks_at c d o q (p ∷ ps) [] s g i l e = absurd (none_some e)
+lacks_at c d none q (p ∷ ps) (p' ∷ qs) s zero i l e = (λ h. refl, λ h. refl)
+lacks_at c d (some k) q (p ∷ ps) (p' ∷ qs) s zero i l e = (λ h. absurd (none_some (sym h)), λ h. absurd (none_some (sym h)))
+lacks_at c d o q (p ∷ ps) (p' ∷ qs) s (suc g) i l e = lacks_at c d o q ps qs (omega arith) g i l e
 
-lacks-own :
+lacks_own :
     (c d : Catalogue) (m n : Message)
     → length m.parts ≡ length n.parts
     → (g i : ℕ) (l : Line)
-    → line_at (reportOf d n) (item g i) ≡ some l
-    → Lacks (reportOf c m) (item g i) ↔ (c.layout m.key ≡ none)
-unfolding line_at Lacks reportOf
-lacks-own c d m n s g i l e = lacks-at c d (c.layout m.key) (d.layout n.key) m.parts n.parts s g i l e
+    → line_at (report_of d n) (item g i) ≡ some l
+    → Lacks (report_of c m) (item g i) ↔ (c.layout m.key ≡ none)
+unfolding line_at Lacks report_of
+lacks_own c d m n s g i l e = lacks_at c d (c.layout m.key) (d.layout n.key) m.parts n.parts s g i l e
 
 -- "the first supplement lacks the layout that the second report uses": that of the second message.
-pub lacks-exactly :
+pub lacks_exactly :
     (c d : Catalogue) (m n : Message)
     → Alike c m n
     → (g i : ℕ) (l : Line)
-    → line_at (reportOf d n) (item g i) ≡ some l
-    → Lacks (reportOf c m) (item g i) ↔ (c.layout n.key ≡ none)
-lacks-exactly c d m n (inl same) g i l e =
-    subst (λ (x : Message). Lacks (reportOf c m) (item g i) ↔ (c.layout x.key ≡ none)) same
-    (lacks-own c d m n (ap (λ (x : Message). length x.parts) same) g i l e)
-lacks-exactly c d m n (inr a) g i l e = (λ h. a.other, λ h. (lacks-own c d m n a.parts g i l e).1 a.own)
+    → line_at (report_of d n) (item g i) ≡ some l
+    → Lacks (report_of c m) (item g i) ↔ (c.layout n.key ≡ none)
+lacks_exactly c d m n (inl same) g i l e =
+    subst (λ (x : Message). Lacks (report_of c m) (item g i) ↔ (c.layout x.key ≡ none)) same
+    (lacks_own c d m n (ap (λ (x : Message). length x.parts) same) g i l e)
+lacks_exactly c d m n (inr a) g i l e = (λ h. a.other, λ h. (lacks_own c d m n a.parts g i l e).1 a.own)
 
 -- Demand 3 for a frame's messages under two catalogues, whatever the first finds the second finding the same.
-pub keeps : (c d : Catalogue) → Within c d → (m n : Message) → FullKey m.key → Alike c m n → Keeps (reportOf c m) (reportOf d n)
-unfolding reportOf
+pub keeps : (c d : Catalogue) → Within c d → (m n : Message) → FullKey m.key → Alike c m n → Keeps (report_of c m) (report_of d n)
+unfolding report_of
 keeps c d w m n full (inl same) =
-    subst (λ (x : Message). Keeps (reportOf c m) (reportOf d x)) same
-    (reports-keep (reportOf c m) (reportOf d m) (groups-kept c d w (c.layout m.key) (d.layout m.key) (w.layout m.key full) m.parts) refl)
+    subst (λ (x : Message). Keeps (report_of c m) (report_of d x)) same
+    (reports_keep (report_of c m) (report_of d m) (groups_kept c d w (c.layout m.key) (d.layout m.key) (w.layout m.key full) m.parts) refl)
 keeps c d w m n full (inr a) =
-    reports-keep (reportOf c m) (reportOf d n)
+    reports_keep (report_of c m) (report_of d n)
     (subst (λ (o : Option LayoutRow). AllWith GroupKept (map (group_of c o) m.parts) (map (group_of d (d.layout n.key)) n.parts)) (sym a.own)
-    (groups-gone c d (d.layout n.key) m.parts n.parts a.parts))
-    (ap responseLine a.kind)
+    (groups_gone c d (d.layout n.key) m.parts n.parts a.parts))
+    (ap response_line a.kind)
 
 -- Under the premise a header's selector has one length in both supplements, or the first has no layout for it.
-pub messages-alike :
+pub messages_alike :
     (p : Parts) (s t : List ℕ)
     → Accepted t
     → Among s t
-    → NoNewSelector (recordsOf s) (recordsOf t)
-    → Alike (catalogue s) (messageOf (catalogue s) p) (messageOf (catalogue t) p)
-messages-alike p s t b among kept =
-    let first : ℕ = keyByte p.header in
-    let target : ℕ = keyTarget p.header in
-    let with : ℕ → Message = λ n. messageWith p.header (take n p.body) p.body (kindNumber p.kind) in
+    → NoNewSelector (records_of s) (records_of t)
+    → Alike (catalogue s) (message_of (catalogue s) p) (message_of (catalogue t) p)
+messages_alike p s t b among kept =
+    let first : ℕ = key_byte p.header in
+    let target : ℕ = key_target p.header in
+    let with : ℕ → Message = λ n. message_with p.header (take n p.body) p.body (kind_number p.kind) in
     ⊎_elim (λ e. inl (ap with e))
     (λ none-for.
     inr
     (record {
-      own = none-for (take (lengthFor (catalogue s) first target) p.body);
-      other = none-for (take (lengthFor (catalogue t) first target) p.body);
+      own = none-for (take (length_for (catalogue s) first target) p.body);
+      other = none-for (take (length_for (catalogue t) first target) p.body);
       parts = refl;
       kind = refl;
     }))
-    (lengths-alike (recordsOf s) (recordsOf t) (good t b).keys among kept first target)
+    (lengths_alike (records_of s) (records_of t) (good t b).keys among kept first target)
 
 -- "Take any accepted frame and two accepted supplements, every record of the first standing in the second too.", under the premise: "the
 -- second supplement has no kind 4 record for any header for which the first has a layout, except those that the first has too".
-pub demand-three :
+pub demand_three :
     (p : Parts) (s t : List ℕ)
     → Accepted s
     → Accepted t
     → Among s t
-    → NoNewSelector (recordsOf s) (recordsOf t)
+    → NoNewSelector (records_of s) (records_of t)
     → Keeps (under s p) (under t p)
-demand-three p s t a b among kept =
-    let key = layout-key-full (keyByte p.header) (keyTarget p.header) (selectorOf (catalogue s) p.header p.body) in
-    keeps (catalogue s) (catalogue t) (supplement-within s t b among) _ _ key (messages-alike p s t b among kept)
+demand_three p s t a b among kept =
+    let key = layout_key_full (key_byte p.header) (key_target p.header) (selector_of (catalogue s) p.header p.body) in
+    keeps (catalogue s) (catalogue t) (supplement_within s t b among) _ _ key (messages_alike p s t b among kept)

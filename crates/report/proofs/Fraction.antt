@@ -13,29 +13,29 @@ use Rattle.report.specs.declared.line.Line.{Line}
 use Rattle.report.specs.declared.line.Line.TheVariants.{Number}
 use Rattle.report.specs.Rows.{row}
 use Rattle.report.specs.Fraction.{IsFraction, ShownLine}
-use Rattle.report.specs.Contracts.{holdsFraction, allHold}
-use Rattle.report.proofs.scaling.Finite.{fraction-finite}
+use Rattle.report.specs.Inner.{HoldsFraction, AllHold}
+use Rattle.report.proofs.scaling.Finite.{fraction_finite}
 use Rattle.report.proofs.row.Equal.{line_same}
-use Rattle.report.proofs.message.Held.{numbers-hold}
+use Rattle.report.proofs.message.Held.{numbers_hold}
 
-held_of : (ls : List Line) (l : Line) → allHold ls → Memᴰ l ls → holdsFraction l
-unfolding allHold
+held_of : (ls : List Line) (l : Line) → AllHold ls → Memᴰ l ls → HoldsFraction l
+unfolding AllHold
 held_of [] l a m = absurd (Memᴰ.not-nil m)
 held_of (k ∷ ls) l a m =
-    ⊎_elim (λ (h : l ≡ k). subst holdsFraction (sym h) a.0) (λ (t : Memᴰ l ls). held_of ls l a.1 t) (Memᴰ.cases_cons m)
+    ⊎_elim (λ (h : l ≡ k). subst HoldsFraction (sym h) a.0) (λ (t : Memᴰ l ls). held_of ls l a.1 t) (Memᴰ.cases_cons m)
 
-shown-holds : (l : Line) → ShownLine l → holdsFraction l
-shown-holds l s = held_of _ l (numbers-hold s.supplement s.bytes (good s.supplement s.accepted) _) s.line
+shown_holds : (l : Line) → ShownLine l → HoldsFraction l
+shown_holds l s = held_of _ l (numbers_hold s.supplement s.bytes (good s.supplement s.accepted) _) s.line
 
 -- "of every Number that any report shows, the double is the whole number over the divisor, divided once; the divisor is 1 to 65535; the
 -- whole number is within 2^49 in size"
-pub every-number : (x : Float) (n : ℤ) (d : ℕ) → ShownLine (Number x n d) → IsFraction x n d
-every-number x n d s = shown-holds (Number x n d) s
+pub every_number : (x : Float) (n : ℤ) (d : ℕ) → ShownLine (Number x n d) → IsFraction x n d
+every_number x n d s = shown_holds (Number x n d) s
 
 -- "equal rows have equal fractions": a line whose row is that of a Number is that Number, with its whole number, divisor and double.
-pub equal-rows : (l : Line) (x : Float) (n : ℤ) (d : ℕ) → ShownLine l → ShownLine (Number x n d) → row l ≡ row (Number x n d) → l ≡ Number x n d
-equal-rows l x n d s t same = line_same l x n d (shown-holds l s) (every-number x n d t) same
+pub equal_rows : (l : Line) (x : Float) (n : ℤ) (d : ℕ) → ShownLine l → ShownLine (Number x n d) → row l ≡ row (Number x n d) → l ≡ Number x n d
+equal_rows l x n d s t same = line_same l x n d (shown_holds l s) (every_number x n d t) same
 
 -- "a Number carries a double": one that is finite, neither a NaN nor an infinity.
 pub finite_number : (x : Float) (n : ℤ) (d : ℕ) → ShownLine (Number x n d) → finite x ≡ true
-finite_number x n d s = fraction-finite (every-number x n d s)
+finite_number x n d s = fraction_finite (every_number x n d s)

@@ -5,8 +5,8 @@ use Rattle.std.proofs.Math.ListN.{get_elem?}
 use Rattle.catalogue.specs.Record.{LayoutRow}
 use Rattle.catalogue.specs.Lookup.{Catalogue}
 use Rattle.report.specs.declared.line.Line.{Line}
-use Rattle.report.specs.Line.{isUnknown}
-use Rattle.report.specs.Verdict.{VerdictClear, VerdictFlagged}
+use Rattle.report.specs.Line.{is_unknown}
+use Rattle.report.specs.Verdict.{verdict_clear, verdict_flagged}
 use Rattle.report.specs.Report.{Message, Group, Report, verdict}
 use Rattle.report.specs.Rows.{row}
 
@@ -16,27 +16,27 @@ pub data Name : Type 0 where
   remainder : ℕ → Name
   response : Name
 
-unfoldable pub itemIn : Option Group → ℕ → Option Line
-itemIn none i = none
-itemIn (some g) i = get_elem? g.items i
+unfoldable pub item_in : Option Group → ℕ → Option Line
+item_in none i = none
+item_in (some g) i = get_elem? g.items i
 
-unfoldable pub remainderIn : Option Group → Option Line
-remainderIn none = none
-remainderIn (some g) = some g.remainder
+unfoldable pub remainder_in : Option Group → Option Line
+remainder_in none = none
+remainder_in (some g) = some g.remainder
 
-unfoldable pub layoutIn : Option Group → Option LayoutRow
-layoutIn none = none
-layoutIn (some g) = g.layout
+unfoldable pub layout_in : Option Group → Option LayoutRow
+layout_in none = none
+layout_in (some g) = g.layout
 
 -- The line of a name, if the report has it.
 unfoldable pub line_at : Report → Name → Option Line
-line_at r (item g i) = itemIn (get_elem? r.groups g) i
-line_at r (remainder g) = remainderIn (get_elem? r.groups g)
+line_at r (item g i) = item_in (get_elem? r.groups g) i
+line_at r (remainder g) = remainder_in (get_elem? r.groups g)
 line_at r response = some r.response
 
 -- What may go missing, by name: "only item lines", where the report lacks the layout of their group.
 unfoldable pub Lacks : Report → Name → Type 0
-Lacks r (item g i) = layoutIn (get_elem? r.groups g) ≡ none
+Lacks r (item g i) = layout_in (get_elem? r.groups g) ≡ none
 Lacks r (remainder g) = ⊥
 Lacks r response = ⊥
 
@@ -54,19 +54,19 @@ Alike c m n = (m ≡ n) ⊎ Neither c m n
 -- selector length for a header of the first's layouts:
 pub record Keeps (old new : Report) : Type 0 where
   -- "What the first shows as anything but Unknown is the same under the second;
-  pub shown : (n : Name) (l : Line) → line_at old n ≡ some l → isUnknown l ≡ false → line_at new n ≡ some l
+  pub shown : (n : Name) (l : Line) → line_at old n ≡ some l → is_unknown l ≡ false → line_at new n ≡ some l
   -- Clear stays Clear,
-  pub clear : verdict old ≡ VerdictClear → verdict new ≡ VerdictClear
+  pub clear : verdict old ≡ verdict_clear → verdict new ≡ verdict_clear
   -- Flagged stays Flagged;
-  pub flagged : verdict old ≡ VerdictFlagged → verdict new ≡ VerdictFlagged
+  pub flagged : verdict old ≡ verdict_flagged → verdict new ≡ verdict_flagged
   -- with records taken away, each line is the same or Unknown or missing,
   pub taken :
       (n : Name) (l : Line)
       → line_at new n ≡ some l
-      → (line_at old n ≡ some l) ⊎ (((k : Line) × (line_at old n ≡ some k) × (isUnknown k ≡ true)) ⊎ (line_at old n ≡ none))
+      → (line_at old n ≡ some l) ⊎ (((k : Line) × (line_at old n ≡ some k) × (is_unknown k ≡ true)) ⊎ (line_at old n ≡ none))
   -- only item lines go missing, each exactly when the first supplement lacks the layout that the second report uses,
   pub missing : (n : Name) (l : Line) → line_at new n ≡ some l → (line_at old n ≡ none) ↔ Lacks old n
   -- and no verdict becomes Clear."
-  pub not-clear : (verdict new ≡ VerdictClear → ⊥) → verdict old ≡ VerdictClear → ⊥
+  pub not_clear : (verdict new ≡ verdict_clear → ⊥) → verdict old ≡ verdict_clear → ⊥
   -- "two lines are the same if their rows below are equal byte for byte": so are those of what the first shows
-  pub rows : (n : Name) (l k : Line) → line_at old n ≡ some l → isUnknown l ≡ false → line_at new n ≡ some k → row l ≡ row k
+  pub rows : (n : Name) (l k : Line) → line_at old n ≡ some l → is_unknown l ≡ false → line_at new n ≡ some k → row l ≡ row k

@@ -11,19 +11,19 @@ use Rattle.report.specs.Report.{lines_of}
 use Rattle.report.specs.Answer.{under}
 
 -- The largest divisor, and the largest size of a whole number above the line.
-abbrev pub MostDivisor : ℕ
-MostDivisor = 65535
+abbrev pub most_divisor : ℕ
+most_divisor = 65535
 
-abbrev pub MostAbove : ℕ
-MostAbove = 2 ^ 49
+abbrev pub most_above : ℕ
+most_above = 2 ^ 49
 
 -- A double, a whole number and a divisor that belong together: the double is the whole number over the divisor, divided once; the divisor
 -- is 1 to 65535; the whole number is within 2^49 in size.
 pub record IsFraction (x : Float) (n : ℤ) (d : ℕ) : Type 0 where
   pub divided : x ≡ quotient n d
   pub least : 1 ≤ d
-  pub most : d ≤ MostDivisor
-  pub size : nat_abs n ≤ MostAbove
+  pub most : d ≤ most_divisor
+  pub size : nat_abs n ≤ most_above
 
 -- A line that some report shows: of the parts of a frame, under an accepted supplement.
 pub record ShownLine (l : Line) : Type 0 where

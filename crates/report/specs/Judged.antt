@@ -3,7 +3,7 @@ use Rattle.std.specs.Prelude.{ℕ, ◌≡◌, ◌↔◌, ◌⊎◌}
 use mathlib.Core.List.{List, Memᴰ}
 use Rattle.report.specs.declared.line.Line.{Line}
 use Rattle.report.specs.declared.line.Line.TheVariants.{Invalid, Short, Unknown, Left}
-use Rattle.report.specs.Verdict.{VerdictClear, VerdictFlagged, VerdictUnknown}
+use Rattle.report.specs.Verdict.{verdict_clear, verdict_flagged, verdict_unknown}
 use Rattle.report.specs.Report.{Report, lines_of, verdict}
 
 -- "a line is Invalid or Short or Left is not 0"; "a line is Unknown"
@@ -16,8 +16,8 @@ ShowsUnknown ls = (n : ℕ) × Memᴰ (Unknown n) ls
 -- The verdict of every report, from the lines that it shows.
 pub record Judged (r : Report) : Type 0 where
   -- "Flagged (2) if a line is Invalid or Short or Left is not 0;
-  pub flagged : (verdict r ≡ VerdictFlagged) ↔ ShowsFlagged (lines_of r)
+  pub flagged : (verdict r ≡ verdict_flagged) ↔ ShowsFlagged (lines_of r)
   -- otherwise Unknown (3) if a line is Unknown;
-  pub unknown : (verdict r ≡ VerdictUnknown) ↔ ((ShowsFlagged (lines_of r) → ⊥) × ShowsUnknown (lines_of r))
+  pub unknown : (verdict r ≡ verdict_unknown) ↔ ((ShowsFlagged (lines_of r) → ⊥) × ShowsUnknown (lines_of r))
   -- otherwise Clear (1)"
-  pub clear : (verdict r ≡ VerdictClear) ↔ ((ShowsFlagged (lines_of r) → ⊥) × (ShowsUnknown (lines_of r) → ⊥))
+  pub clear : (verdict r ≡ verdict_clear) ↔ ((ShowsFlagged (lines_of r) → ⊥) × (ShowsUnknown (lines_of r) → ⊥))

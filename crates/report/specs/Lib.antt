@@ -14,4 +14,4 @@ pub mod Selector
 pub mod Judged
 pub mod TwoCalls
 pub mod Former
-pub mod Contracts
+pub mod Inner

@@ -3,55 +3,55 @@ use Rattle.std.specs.Prelude.{ℕ, Bool, true, false, not, eqb}
 use Rattle.report.specs.declared.line.Line.{Line}
 use Rattle.report.specs.declared.line.Line.TheVariants.{Number, State, Bits, Text, Digits, Invalid, Short, Unknown, Left, Answered}
 
--- "PRN in neither table, Unknown 1"; "place lost, Unknown 2"; "no SLOT of that form, width and number, Unknown 3"
-abbrev pub NoPrn : ℕ
-NoPrn = 1
+-- "prn_kind in neither table, Unknown 1"; "place lost, Unknown 2"; "no slot_kind of that form, width and number, Unknown 3"
+abbrev pub no_prn_reason : ℕ
+no_prn_reason = 1
 
-abbrev pub PlaceLost : ℕ
-PlaceLost = 2
+abbrev pub place_lost_reason : ℕ
+place_lost_reason = 2
 
-abbrev pub NoSlot : ℕ
-NoSlot = 3
+abbrev pub no_slot_reason : ℕ
+no_slot_reason = 3
 
--- "form BMM, SFP or PKT, Unknown 4", and a width that holds no whole characters or digits; SED outside the raw limits, Unknown 5;
+-- "form bmm, sfp or pkt, Unknown 4", and a width that holds no whole characters or digits; sed outside the raw limits, Unknown 5;
 -- "width over 32, Unknown 6"
-abbrev pub NotShown : ℕ
-NotShown = 4
+abbrev pub not_shown_reason : ℕ
+not_shown_reason = 4
 
-abbrev pub NoState : ℕ
-NoState = 5
+abbrev pub no_state_reason : ℕ
+no_state_reason = 5
 
-abbrev pub TooWide : ℕ
-TooWide = 6
+abbrev pub too_wide_reason : ℕ
+too_wide_reason = 6
 
 -- "kind 3, Unknown 7"; "no layout, Unknown 8"
-abbrev pub DataResponse : ℕ
-DataResponse = 7
+abbrev pub data_response_reason : ℕ
+data_response_reason = 7
 
-abbrev pub NoLayout : ℕ
-NoLayout = 8
+abbrev pub no_layout_reason : ℕ
+no_layout_reason = 8
 
 -- A line flags the report if it is Invalid or Short, or Left and not 0; it leaves it Unknown if it is Unknown.
-abbrev pub isFlagged : Line → Bool
-isFlagged (Number x n d) = false
-isFlagged (State n) = false
-isFlagged (Bits n) = false
-isFlagged (Text n) = false
-isFlagged (Digits n) = false
-isFlagged (Invalid n) = true
-isFlagged Short = true
-isFlagged (Unknown n) = false
-isFlagged (Left n) = not (eqb n 0)
-isFlagged (Answered n) = false
+abbrev pub is_flagged : Line → Bool
+is_flagged (Number x n d) = false
+is_flagged (State n) = false
+is_flagged (Bits n) = false
+is_flagged (Text n) = false
+is_flagged (Digits n) = false
+is_flagged (Invalid n) = true
+is_flagged Short = true
+is_flagged (Unknown n) = false
+is_flagged (Left n) = not (eqb n 0)
+is_flagged (Answered n) = false
 
-abbrev pub isUnknown : Line → Bool
-isUnknown (Number x n d) = false
-isUnknown (State n) = false
-isUnknown (Bits n) = false
-isUnknown (Text n) = false
-isUnknown (Digits n) = false
-isUnknown (Invalid n) = false
-isUnknown Short = false
-isUnknown (Unknown n) = true
-isUnknown (Left n) = false
-isUnknown (Answered n) = false
+abbrev pub is_unknown : Line → Bool
+is_unknown (Number x n d) = false
+is_unknown (State n) = false
+is_unknown (Bits n) = false
+is_unknown (Text n) = false
+is_unknown (Digits n) = false
+is_unknown (Invalid n) = false
+is_unknown Short = false
+is_unknown (Unknown n) = true
+is_unknown (Left n) = false
+is_unknown (Answered n) = false

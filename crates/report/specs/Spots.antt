@@ -7,16 +7,16 @@ use Rattle.report.specs.declared.spots.Place.TheVariants.{Bit, Lost, Past}
 use Rattle.report.specs.declared.spots.Spot.{Spot}
 use Rattle.report.specs.declared.spots.Spot.TheVariants.{Astray, Beyond, Rowless, Over, Lies}
 
--- An item that begins at a bit, by its PRN's row and the bit where items end: "PRN in neither table"; "item ends past the data".
-unfoldable pub spotAt : Option PrnRow → ℕ → ℕ → Spot
-spotAt none to at = Rowless
-spotAt (some row) to at = cond (ltb to (at + row.width)) Over (Lies row at)
+-- An item that begins at a bit, by its PRN's row and the bit where items end: "prn_kind in neither table"; "item ends past the data".
+unfoldable pub spot_at : Option PrnRow → ℕ → ℕ → Spot
+spot_at none to at = Rowless
+spot_at (some row) to at = cond (ltb to (at + row.width)) Over (Lies row at)
 
 -- "place lost"; "an earlier line Short"; else by the PRN's row.
 unfoldable pub spot_of : (ℕ → Option PrnRow) → ℕ → Place → ℕ → Spot
 spot_of rows to Lost prn = Astray
 spot_of rows to Past prn = Beyond
-spot_of rows to (Bit at) prn = spotAt (rows prn) to at
+spot_of rows to (Bit at) prn = spot_at (rows prn) to at
 
 -- The place behind an item: "the place is lost from here"; behind a Short line it is past the data, else behind the item.
 abbrev pub behind : Spot → Place
@@ -31,6 +31,6 @@ unfoldable pub spots : (ℕ → Option PrnRow) → ℕ → Place → List ℕ �
 spots rows to place [] = []
 spots rows to place (prn ∷ prns) = spot_of rows to place prn ∷ spots rows to (behind (spot_of rows to place prn)) prns
 
-unfoldable pub placeAfter : Place → List Spot → Place
-placeAfter place [] = place
-placeAfter place (spot ∷ rest) = placeAfter (behind spot) rest
+unfoldable pub place_after : Place → List Spot → Place
+place_after place [] = place
+place_after place (spot ∷ rest) = place_after (behind spot) rest

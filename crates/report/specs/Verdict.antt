@@ -1,16 +1,16 @@
 -- The verdict of lines: document 01, "The report".
 use Rattle.std.specs.Prelude.{ℕ, Bool, false, cond, ◌||◌, List, [], ◌∷◌}
 use Rattle.report.specs.declared.line.Line.{Line}
-use Rattle.report.specs.Line.{isFlagged, isUnknown}
+use Rattle.report.specs.Line.{is_flagged, is_unknown}
 
-abbrev pub VerdictClear : ℕ
-VerdictClear = 1
+abbrev pub verdict_clear : ℕ
+verdict_clear = 1
 
-abbrev pub VerdictFlagged : ℕ
-VerdictFlagged = 2
+abbrev pub verdict_flagged : ℕ
+verdict_flagged = 2
 
-abbrev pub VerdictUnknown : ℕ
-VerdictUnknown = 3
+abbrev pub verdict_unknown : ℕ
+verdict_unknown = 3
 
 -- Whether a test holds for a line.
 unfoldable pub any : (Line → Bool) → List Line → Bool
@@ -18,8 +18,8 @@ any p [] = false
 any p (l ∷ ls) = p l || any p ls
 
 -- Flagged if a line flags it, otherwise Unknown if a line is Unknown, otherwise Clear.
-abbrev pub verdictBy : Bool → Bool → ℕ
-verdictBy flagged unknown = cond flagged VerdictFlagged (cond unknown VerdictUnknown VerdictClear)
+abbrev pub verdict_by : Bool → Bool → ℕ
+verdict_by flagged unknown = cond flagged verdict_flagged (cond unknown verdict_unknown verdict_clear)
 
-unfoldable pub verdictOf : List Line → ℕ
-verdictOf ls = verdictBy (any isFlagged ls) (any isUnknown ls)
+unfoldable pub verdict_of : List Line → ℕ
+verdict_of ls = verdict_by (any is_flagged ls) (any is_unknown ls)

@@ -1,12 +1,12 @@
 // The report of what was read of a frame, on any bus, as rows in lent memory.
 ghost use Rattle.std.specs.Prelude.{◌≡◌, ◌≤◌, length};
-ghost use Rattle.frame.specs.Frame.{reading_of, MostBytes};
-ghost use Rattle.catalogue.specs.Supplement.{recordsOf, Good};
+ghost use Rattle.frame.specs.Frame.{reading_of, most_bytes};
+ghost use Rattle.catalogue.specs.Supplement.{records_of, Good};
 ghost use Rattle.catalogue.specs.Lookup.{catalogue};
-ghost use Rattle.report.specs.Report.{reportFrom};
-ghost use Rattle.report.specs.Rows.{reportBytes};
-ghost use Rattle.report.specs.Answer.{fitted, outAfter, sized, reportedOf};
-ghost use Rattle.report.specs.Contracts.{Cuts, sizesAnswer};
+ghost use Rattle.report.specs.Report.{report_from};
+ghost use Rattle.report.specs.Rows.{report_bytes};
+ghost use Rattle.report.specs.Answer.{fitted, out_after, sized, reported_of};
+ghost use Rattle.report.specs.Inner.{Cuts, sizes_answer};
 
 use crate::message::message_report;
 use crate::row::BYTE_ROW;
@@ -30,9 +30,9 @@ pub(crate) fn parts_report(
     kind: u8,
     out: &mut [u8],
 ) -> Reported
-    requires { Good (recordsOf s.now) × (length body.now ≤ MostBytes) }
-    ensures told { reportedOf result ≡ sized (fitted (length out.old) (reportBytes (reportFrom (catalogue s.now) header.now body.now kind))) }
-    ensures left { out.new ≡ outAfter (fitted (length out.old) (reportBytes (reportFrom (catalogue s.now) header.now body.now kind))) out.old }
+    requires { Good (records_of s.now) × (length body.now ≤ most_bytes) }
+    ensures told { reported_of result ≡ sized (fitted (length out.old) (report_bytes (report_from (catalogue s.now) header.now body.now kind))) }
+    ensures left { out.new ≡ out_after (fitted (length out.old) (report_bytes (report_from (catalogue s.now) header.now body.now kind))) out.old }
 {
     let report = message_report(s, header, body, kind);
     let tally = report.tally;
@@ -52,8 +52,8 @@ pub(crate) fn reading_report(
     out: &mut [u8],
 ) -> Reported
     requires { Cuts run.now (reading_of reading) }
-    ensures told { reportedOf result ≡ sized (sizesAnswer supplement.now run.now (reading_of reading) (length out.old)) }
-    ensures left { out.new ≡ outAfter (sizesAnswer supplement.now run.now (reading_of reading) (length out.old)) out.old }
+    ensures told { reported_of result ≡ sized (sizes_answer supplement.now run.now (reading_of reading) (length out.old)) }
+    ensures left { out.new ≡ out_after (sizes_answer supplement.now run.now (reading_of reading) (length out.old)) out.old }
 {
     let checked = check_supplement(supplement);
     if checked.refusal != NO_REFUSAL {

@@ -1,8 +1,8 @@
 // The bits of an item, cut out of the data at any bit by shift and mask.
 ghost use Rattle.std.specs.Prelude.{◌≡◌, ◌≤◌};
 ghost use Rattle.report.specs.Bits.{bit_at, cut};
-ghost use Rattle.report.specs.Scaling.{WidestShown};
-ghost use Rattle.report.specs.Contracts.{MostBits};
+ghost use Rattle.report.specs.Scaling.{widest_shown};
+ghost use Rattle.report.specs.Inner.{most_bits};
 
 use frame::bytes::byte_at;
 
@@ -20,7 +20,7 @@ fn bit_at(s: &[u8], i: usize) -> u8
 
 // The number that so many bits from a place on make. A byte that lies whole among them is taken at once.
 pub(crate) fn cut_bits(s: &[u8], at: usize, width: u8) -> u32
-    requires { (at ≤ MostBits) × (width ≤ WidestShown) }
+    requires { (at ≤ most_bits) × (width ≤ widest_shown) }
     ensures { result ≡ cut s.now at width }
 {
     let mut raw: u32 = 0;

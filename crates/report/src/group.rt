@@ -1,12 +1,12 @@
 // The lines of a group: the items of a layout's PRNs in a window of bits, and what they leave.
 ghost use Rattle.std.specs.Prelude.{◌≡◌, false, cond, [], ◌∷◌, ◌++◌, ◌+◌, ◌≤◌, ◌<◌, length};
-ghost use Rattle.catalogue.specs.Record.{MostPrns};
-ghost use Rattle.catalogue.specs.Supplement.{recordsOf, Good};
+ghost use Rattle.catalogue.specs.Record.{most_prns};
+ghost use Rattle.catalogue.specs.Supplement.{records_of, Good};
 ghost use Rattle.catalogue.specs.Lookup.{catalogue, layout_of};
 ghost use Rattle.report.specs.declared.line.Line.TheVariants.{Unknown};
-ghost use Rattle.report.specs.Line.{NoLayout};
-ghost use Rattle.report.specs.Report.{remainderAt, group_of, groupLines};
-ghost use Rattle.report.specs.Contracts.{MostBits, MostLines, Inside, linesIn, Shows};
+ghost use Rattle.report.specs.Line.{no_layout_reason};
+ghost use Rattle.report.specs.Report.{remainder_at, group_of, group_lines};
+ghost use Rattle.report.specs.Inner.{most_bits, most_lines, Inside, lines_in, Shows};
 
 use crate::items::item_line;
 use crate::line::{Held, Line, NO_LAYOUT, PLACE_LOST};
@@ -16,8 +16,8 @@ use crate::tally::tallied;
 use catalogue::lookup::LayoutFound;
 
 fn remainder_line(to: usize, place: Place) -> Line
-    requires { (to ≤ MostBits) × Inside to place }
-    ensures { result ≡ remainderAt to place }
+    requires { (to ≤ most_bits) × Inside to place }
+    ensures { result ≡ remainder_at to place }
 {
     match place {
         Place::Bit(at) => Line::Left((to - at) as u8),
@@ -28,8 +28,8 @@ fn remainder_line(to: usize, place: Place) -> Line
 
 // The remainder of a layout; without one it says so.
 fn group_remainder(found: bool, to: usize, place: Place) -> Line
-    requires { (to ≤ MostBits) × Inside to place }
-    ensures { result ≡ cond found (remainderAt to place) (Unknown NoLayout) }
+    requires { (to ≤ most_bits) × Inside to place }
+    ensures { result ≡ cond found (remainder_at to place) (Unknown no_layout_reason) }
 {
     if found {
         remainder_line(to, place)
@@ -48,10 +48,10 @@ pub(crate) fn with_group(
     to: usize,
     layout: LayoutFound,
 ) -> Report
-    requires good { Good (recordsOf s.now) × (from ≤ to) × (to ≤ MostBits) }
-    requires layout { (layout.count ≤ MostPrns) × (length layout.prns ≡ MostPrns) × (layout.found ≡ false → layout.count ≡ 0) }
-    requires room { Shows report (linesIn report) × (report.count + layout.count < MostLines) }
-    ensures { Shows result (linesIn report ++ groupLines (group_of (catalogue s.now) (layout_of layout) (record { bytes = bytes.entry.now; from = from; to = to; prns = λ l. l.prns }) ∷ [])) }
+    requires good { Good (records_of s.now) × (from ≤ to) × (to ≤ most_bits) }
+    requires layout { (layout.count ≤ most_prns) × (length layout.prns ≡ most_prns) × (layout.found ≡ false → layout.count ≡ 0) }
+    requires room { Shows report (lines_in report) × (report.count + layout.count < most_lines) }
+    ensures { Shows result (lines_in report ++ group_lines (group_of (catalogue s.now) (layout_of layout) (record { bytes = bytes.entry.now; from = from; to = to; prns = λ l. l.prns }) ∷ [])) }
 {
     let first = report.count;
     let mut held = report.held;

@@ -1,11 +1,11 @@
 // The line of an item, from where it lies and its SLOT.
 ghost use Rattle.std.specs.Prelude.{◌≡◌, ◌≤◌};
-ghost use Rattle.catalogue.specs.Supplement.{recordsOf, Good};
+ghost use Rattle.catalogue.specs.Supplement.{records_of, Good};
 ghost use Rattle.catalogue.specs.Lookup.{catalogue};
 ghost use Rattle.report.specs.Bits.{cut};
-ghost use Rattle.report.specs.Scaling.{formLine};
-ghost use Rattle.report.specs.Items.{slotLine, itemLine};
-ghost use Rattle.report.specs.Contracts.{MostBits, Lying};
+ghost use Rattle.report.specs.Scaling.{form_line};
+ghost use Rattle.report.specs.Items.{slot_line, item_line};
+ghost use Rattle.report.specs.Inner.{most_bits, Lying};
 
 use crate::bits::cut_bits;
 use crate::line::{Line, NO_PRN, NO_SLOT, NOT_SHOWN, PLACE_LOST, TOO_WIDE};
@@ -16,8 +16,8 @@ use catalogue::rows::{BMM, PrnRow, SlotFound, SlotRow};
 
 // The line of an item whose SLOT was found.
 fn known_line(form: u8, width: u8, slot: SlotRow, bytes: &[u8], at: usize) -> Line
-    requires { (slot.form ≡ form) × (slot.width ≡ width) × (1 ≤ width) × (at ≤ MostBits) }
-    ensures { result ≡ formLine form width slot (cut bytes.now at width) }
+    requires { (slot.form ≡ form) × (slot.width ≡ width) × (1 ≤ width) × (at ≤ most_bits) }
+    ensures { result ≡ form_line form width slot (cut bytes.now at width) }
 {
     if BMM <= form {
         return Line::Unknown(NOT_SHOWN);
@@ -30,8 +30,8 @@ fn known_line(form: u8, width: u8, slot: SlotRow, bytes: &[u8], at: usize) -> Li
 
 // The line of an item that lies from a bit on.
 fn slot_line(s: &[u8], bytes: &[u8], row: PrnRow, at: usize) -> Line
-    requires { Good (recordsOf s.now) × (1 ≤ row.width) × (at ≤ MostBits) }
-    ensures { result ≡ slotLine ((catalogue s.now).slot row.form row.width row.slot) row bytes.now at }
+    requires { Good (records_of s.now) × (1 ≤ row.width) × (at ≤ most_bits) }
+    ensures { result ≡ slot_line ((catalogue s.now).slot row.form row.width row.slot) row bytes.now at }
 {
     let found = find_slot(s, row.form, row.width, row.slot);
     match found {
@@ -42,8 +42,8 @@ fn slot_line(s: &[u8], bytes: &[u8], row: PrnRow, at: usize) -> Line
 
 // The line of an item by its spot.
 pub(crate) fn item_line(s: &[u8], bytes: &[u8], spot: Spot) -> Line
-    requires { Good (recordsOf s.now) × Lying MostBits spot }
-    ensures { result ≡ itemLine (catalogue s.now).slot bytes.now spot }
+    requires { Good (records_of s.now) × Lying most_bits spot }
+    ensures { result ≡ item_line (catalogue s.now).slot bytes.now spot }
 {
     match spot {
         Spot::Astray => Line::Unknown(PLACE_LOST),

@@ -1,6 +1,6 @@
 // The report struct: its lines flat, in the order of their rows, and what they add up to.
 ghost use Rattle.std.specs.Prelude.{[]};
-ghost use Rattle.report.specs.Contracts.{Shows};
+ghost use Rattle.report.specs.Inner.{Shows};
 
 use crate::line::{Held, Line};
 use crate::tally::{Tally, no_lines};

@@ -1,11 +1,11 @@
 // The report of a message: its selector, its layout, its group, its response.
 ghost use Rattle.std.specs.Prelude.{◌≡◌, ◌≤◌, length, take};
-ghost use Rattle.frame.specs.Frame.{MostBytes};
-ghost use Rattle.catalogue.specs.Record.{recordWith};
-ghost use Rattle.catalogue.specs.Supplement.{recordsOf, Good};
-ghost use Rattle.catalogue.specs.Lookup.{catalogue, lengthFor, layoutKey, layoutFound};
-ghost use Rattle.report.specs.Report.{keyByte, keyTarget, responseLine, reportFrom, lines_of};
-ghost use Rattle.report.specs.Contracts.{Shows};
+ghost use Rattle.frame.specs.Frame.{most_bytes};
+ghost use Rattle.catalogue.specs.Record.{record_with};
+ghost use Rattle.catalogue.specs.Supplement.{records_of, Good};
+ghost use Rattle.catalogue.specs.Lookup.{catalogue, length_for, layout_key, layout_found};
+ghost use Rattle.report.specs.Report.{key_byte, key_target, response_line, report_from, lines_of};
+ghost use Rattle.report.specs.Inner.{Shows};
 
 use crate::group::with_group;
 use crate::line::{DATA_RESPONSE, Held, Line};
@@ -19,7 +19,7 @@ use frame::response::KIND_DATA;
 
 // The first byte of the layout sought: no layout of three header bytes has a priority.
 fn key_byte(header: &[u8]) -> u8
-    ensures { result ≡ keyByte header.now }
+    ensures { result ≡ key_byte header.now }
 {
     let b = byte_at(header, 0);
     if header_size(header) == THREE_BYTE_FORM {
@@ -31,7 +31,7 @@ fn key_byte(header: &[u8]) -> u8
 
 // Its target, which a header of one byte lacks.
 fn key_target(header: &[u8]) -> u8
-    ensures { result ≡ keyTarget header.now }
+    ensures { result ≡ key_target header.now }
 {
     if header_size(header) == THREE_BYTE_FORM {
         byte_at(header, 1)
@@ -42,7 +42,7 @@ fn key_target(header: &[u8]) -> u8
 
 // The selector: as many data bytes as the supplement says for the header, or all that there are.
 fn selector_of<'a>(s: &[u8], first: u8, target: u8, body: &'a [u8]) -> &'a [u8]
-    ensures { result.now ≡ take (lengthFor (catalogue s.now) first target) body.now }
+    ensures { result.now ≡ take (length_for (catalogue s.now) first target) body.now }
 {
     let length = find_length(s, first, target) as usize;
     if length < body.len() {
@@ -54,8 +54,8 @@ fn selector_of<'a>(s: &[u8], first: u8, target: u8, body: &'a [u8]) -> &'a [u8]
 
 // The layout of a header and a selector; bytes that the selector lacks are zero.
 fn sought(s: &[u8], first: u8, target: u8, selector: &[u8]) -> LayoutFound
-    requires { length selector.now ≤ MostBytes }
-    ensures { result ≡ layoutFound (recordWith (layoutKey first target selector.now) (recordsOf s.now)) }
+    requires { length selector.now ≤ most_bytes }
+    ensures { result ≡ layout_found (record_with (layout_key first target selector.now) (records_of s.now)) }
 {
     let size = selector.len() as u8;
     let key = [
@@ -70,7 +70,7 @@ fn sought(s: &[u8], first: u8, target: u8, selector: &[u8]) -> LayoutFound
 }
 
 fn response_line(kind: u8) -> Line
-    ensures { result ≡ responseLine kind }
+    ensures { result ≡ response_line kind }
 {
     if kind == KIND_DATA {
         Line::Unknown(DATA_RESPONSE)
@@ -81,8 +81,8 @@ fn response_line(kind: u8) -> Line
 
 // The report of a message under a supplement.
 pub(crate) fn message_report(s: &[u8], header: &[u8], body: &[u8], kind: u8) -> Report
-    requires { Good (recordsOf s.now) × (length body.now ≤ MostBytes) }
-    ensures { Shows result (lines_of (reportFrom (catalogue s.now) header.now body.now kind)) }
+    requires { Good (records_of s.now) × (length body.now ≤ most_bytes) }
+    ensures { Shows result (lines_of (report_from (catalogue s.now) header.now body.now kind)) }
 {
     let first = key_byte(header);
     let target = key_target(header);

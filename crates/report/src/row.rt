@@ -1,9 +1,9 @@
 // The row of a line as bytes in lent memory.
 ghost use Rattle.std.specs.Prelude.{◌≡◌, [], ◌∷◌, ◌+◌, ◌≤◌, length};
 ghost use Rattle.frame.specs.Bytes.{placed};
-ghost use Rattle.report.specs.Rows.{DoubleBytes, CodeBytes, NumberRow, CodeRow, ByteRow, BareRow, bigEndian, twosComplement, row};
+ghost use Rattle.report.specs.Rows.{double_bytes, code_bytes, number_row_size, code_row_size, byte_row_size, bare_row_size, big_endian, twos_complement, row};
 ghost use Rattle.report.specs.Fraction.{IsFraction};
-ghost use Rattle.report.specs.Contracts.{holdsFraction};
+ghost use Rattle.report.specs.Inner.{HoldsFraction};
 
 use crate::line::Line;
 
@@ -50,7 +50,7 @@ pub(crate) const VERDICT: u8 = 11;
 // A number in so many bytes, the most significant first, from a place on; the last byte is written first.
 fn put_number(x: u64, n: usize, out: &mut [u8], at: usize)
     requires { at + n ≤ length out.old }
-    ensures { out.new ≡ placed out.old at (bigEndian n x) }
+    ensures { out.new ≡ placed out.old at (big_endian n x) }
 {
     let mut left = n;
     let mut rest = x;
@@ -63,8 +63,8 @@ fn put_number(x: u64, n: usize, out: &mut [u8], at: usize)
 
 // A kind and a number in so many bytes.
 fn put_body(kind: u8, x: u64, n: usize, out: &mut [u8], at: usize) -> usize
-    requires { (n ≤ DoubleBytes) × (at + 1 + n ≤ length out.old) }
-    ensures placed { out.new ≡ placed out.old at (kind ∷ bigEndian n x) }
+    requires { (n ≤ double_bytes) × (at + 1 + n ≤ length out.old) }
+    ensures placed { out.new ≡ placed out.old at (kind ∷ big_endian n x) }
     ensures behind { result ≡ at + 1 + n }
 {
     out[at] = kind;
@@ -74,7 +74,7 @@ fn put_body(kind: u8, x: u64, n: usize, out: &mut [u8], at: usize) -> usize
 
 // The 64 bits of a signed number.
 fn twos_complement(n: i64) -> u64
-    ensures { result ≡ twosComplement n }
+    ensures { result ≡ twos_complement n }
 {
     if 0 <= n {
         n as u64
@@ -85,9 +85,9 @@ fn twos_complement(n: i64) -> u64
 
 // A Number: the double, the whole number above the line, the divisor.
 fn put_fraction(value: f64, above: i64, divisor: u16, out: &mut [u8], at: usize) -> usize
-    requires { IsFraction value above divisor × (at + NumberRow ≤ length out.old) }
+    requires { IsFraction value above divisor × (at + number_row_size ≤ length out.old) }
     ensures placed { out.new ≡ placed out.old at (row (Line.Number value above divisor)) }
-    ensures behind { result ≡ at + NumberRow }
+    ensures behind { result ≡ at + number_row_size }
 {
     let whole = put_body(NUMBER, f64::to_bits(value), DOUBLE_BYTES, out, at);
     put_number(twos_complement(above), WHOLE_BYTES, out, whole);
@@ -97,18 +97,18 @@ fn put_fraction(value: f64, above: i64, divisor: u16, out: &mut [u8], at: usize)
 
 // A kind and a code.
 fn put_code(kind: u8, code: u32, out: &mut [u8], at: usize) -> usize
-    requires { at + CodeRow ≤ length out.old }
-    ensures placed { out.new ≡ placed out.old at (kind ∷ bigEndian CodeBytes code) }
-    ensures behind { result ≡ at + CodeRow }
+    requires { at + code_row_size ≤ length out.old }
+    ensures placed { out.new ≡ placed out.old at (kind ∷ big_endian code_bytes code) }
+    ensures behind { result ≡ at + code_row_size }
 {
     put_body(kind, code as u64, CODE_BYTES, out, at)
 }
 
 // A kind and a byte.
 pub(crate) fn put_byte(kind: u8, b: u8, out: &mut [u8], at: usize) -> usize
-    requires { at + ByteRow ≤ length out.old }
+    requires { at + byte_row_size ≤ length out.old }
     ensures placed { out.new ≡ placed out.old at (kind ∷ b ∷ []) }
-    ensures behind { result ≡ at + ByteRow }
+    ensures behind { result ≡ at + byte_row_size }
 {
     out[at] = kind;
     out[at + 1] = b;
@@ -117,9 +117,9 @@ pub(crate) fn put_byte(kind: u8, b: u8, out: &mut [u8], at: usize) -> usize
 
 // A kind alone.
 fn put_bare(kind: u8, out: &mut [u8], at: usize) -> usize
-    requires { at + BareRow ≤ length out.old }
+    requires { at + bare_row_size ≤ length out.old }
     ensures placed { out.new ≡ placed out.old at (kind ∷ []) }
-    ensures behind { result ≡ at + BareRow }
+    ensures behind { result ≡ at + bare_row_size }
 {
     out[at] = kind;
     at + BARE_ROW
@@ -127,7 +127,7 @@ fn put_bare(kind: u8, out: &mut [u8], at: usize) -> usize
 
 // The row of a line from a place on; the place behind it.
 pub(crate) fn put_row(line: Line, out: &mut [u8], at: usize) -> usize
-    requires { holdsFraction line × (at + length (row line) ≤ length out.old) }
+    requires { HoldsFraction line × (at + length (row line) ≤ length out.old) }
     ensures placed { out.new ≡ placed out.old at (row line) }
     ensures behind { result ≡ at + length (row line) }
 {

@@ -1,9 +1,9 @@
 // The rows of a report in lent memory.
 ghost use Rattle.std.specs.Prelude.{◌≡◌, ◌++◌, ◌+◌, ◌≤◌, length};
 ghost use Rattle.frame.specs.Bytes.{placed};
-ghost use Rattle.report.specs.Verdict.{verdictOf};
-ghost use Rattle.report.specs.Rows.{ByteRow, rows_of, verdictRow};
-ghost use Rattle.report.specs.Contracts.{allHold, linesIn, Shows};
+ghost use Rattle.report.specs.Verdict.{verdict_of};
+ghost use Rattle.report.specs.Rows.{byte_row_size, rows_of, verdict_row};
+ghost use Rattle.report.specs.Inner.{AllHold, lines_in, Shows};
 
 use crate::lines::Report;
 use crate::row::{VERDICT, put_byte, put_row};
@@ -11,8 +11,8 @@ use crate::verdict::verdict_of;
 
 // The rows of a report at the start of lent memory, the verdict's last.
 pub(crate) fn put_report(report: Report, out: &mut [u8])
-    requires { Shows report (linesIn report) × allHold (linesIn report) × (length (rows_of (linesIn report)) + ByteRow ≤ length out.old) }
-    ensures { out.new ≡ placed out.old 0 (rows_of (linesIn report) ++ verdictRow (verdictOf (linesIn report))) }
+    requires { Shows report (lines_in report) × AllHold (lines_in report) × (length (rows_of (lines_in report)) + byte_row_size ≤ length out.old) }
+    ensures { out.new ≡ placed out.old 0 (rows_of (lines_in report) ++ verdict_row (verdict_of (lines_in report))) }
 {
     let held = report.held;
     let count = report.count;

@@ -1,8 +1,8 @@
 // The line of an item whose SLOT is known.
 ghost use Rattle.std.specs.Prelude.{◌≡◌, ◌≤◌, ◌<◌, ◌^◌, cond};
-ghost use Rattle.catalogue.specs.Rows.{BMM};
-ghost use Rattle.report.specs.Line.{NoState};
-ghost use Rattle.report.specs.Scaling.{WidestShown, signed, pattern, rawNumber, above, numberLine, withinLimits, digitsPass, printable, decimal, textLine, digitsLine, formLine};
+ghost use Rattle.catalogue.specs.Rows.{bmm};
+ghost use Rattle.report.specs.Line.{no_state_reason};
+ghost use Rattle.report.specs.Scaling.{widest_shown, signed, pattern, raw_number, above, number_line, within_limits, digits_pass, printable, decimal, text_line, digits_line, form_line};
 
 use crate::line::{Line, NO_STATE, NOT_SHOWN};
 use catalogue::rows::{ASC, BMP, SED, SNM, SlotRow, in_order};
@@ -23,7 +23,7 @@ fn signed_of(p: u32) -> i64
 
 // The raw number as a 32-bit pattern: for SNM the sign bit fills the bits before it.
 fn pattern_of(form: u8, width: u8, raw: u32) -> u32
-    requires { (1 ≤ width) × (width ≤ WidestShown) × (raw < 2 ^ width) }
+    requires { (1 ≤ width) × (width ≤ widest_shown) × (raw < 2 ^ width) }
     ensures { result ≡ pattern form width raw }
 {
     if form == SNM {
@@ -37,8 +37,8 @@ fn pattern_of(form: u8, width: u8, raw: u32) -> u32
 
 // N of document 01.
 fn raw_number(form: u8, width: u8, raw: u32) -> i64
-    requires { (1 ≤ width) × (width ≤ WidestShown) × (raw < 2 ^ width) }
-    ensures { result ≡ rawNumber form width raw }
+    requires { (1 ≤ width) × (width ≤ widest_shown) × (raw < 2 ^ width) }
+    ensures { result ≡ raw_number form width raw }
 {
     if form == SNM {
         signed_of(pattern_of(form, width, raw))
@@ -49,7 +49,7 @@ fn raw_number(form: u8, width: u8, raw: u32) -> i64
 
 // The whole number above the line.
 fn above_line(slot: SlotRow, raw: u32) -> i64
-    requires { (1 ≤ slot.width) × (slot.width ≤ WidestShown) × (raw < 2 ^ slot.width) }
+    requires { (1 ≤ slot.width) × (slot.width ≤ widest_shown) × (raw < 2 ^ slot.width) }
     ensures { result ≡ above slot raw }
 {
     let n = raw_number(slot.form, slot.width, raw);
@@ -58,8 +58,8 @@ fn above_line(slot: SlotRow, raw: u32) -> i64
 
 // The Number of a raw number: the one place where a fraction and its double are made.
 fn number_line(slot: SlotRow, raw: u32) -> Line
-    requires { (1 ≤ slot.width) × (slot.width ≤ WidestShown) × (raw < 2 ^ slot.width) }
-    ensures { result ≡ numberLine slot raw }
+    requires { (1 ≤ slot.width) × (slot.width ≤ widest_shown) × (raw < 2 ^ slot.width) }
+    ensures { result ≡ number_line slot raw }
 {
     let above = above_line(slot, raw);
     let value = above as f64 / slot.divisor as f64;
@@ -72,8 +72,8 @@ fn number_line(slot: SlotRow, raw: u32) -> Line
 
 // Whether the raw number is within the SLOT's limits, as signed for SNM.
 fn within_limits(slot: SlotRow, raw: u32) -> bool
-    requires { (1 ≤ slot.width) × (slot.width ≤ WidestShown) × (raw < 2 ^ slot.width) }
-    ensures { result ≡ withinLimits slot raw }
+    requires { (1 ≤ slot.width) × (slot.width ≤ widest_shown) × (raw < 2 ^ slot.width) }
+    ensures { result ≡ within_limits slot raw }
 {
     let p = pattern_of(slot.form, slot.width, raw);
     if !in_order(slot.form, slot.lowest, p) {
@@ -84,7 +84,7 @@ fn within_limits(slot: SlotRow, raw: u32) -> bool
 
 // Whether each of n bytes of a number is printable.
 fn all_printable(raw: u32, n: u8) -> bool
-    ensures { result ≡ digitsPass printable 8 n raw }
+    ensures { result ≡ digits_pass printable 8 n raw }
 {
     let mut rest = raw;
     for _ in 0..n {
@@ -102,7 +102,7 @@ fn all_printable(raw: u32, n: u8) -> bool
 
 // Whether each of n digits of four bits is at most 9.
 fn all_decimal(raw: u32, n: u8) -> bool
-    ensures { result ≡ digitsPass decimal 4 n raw }
+    ensures { result ≡ digits_pass decimal 4 n raw }
 {
     let mut rest = raw;
     for _ in 0..n {
@@ -116,8 +116,8 @@ fn all_decimal(raw: u32, n: u8) -> bool
 
 // UNM and SNM: the Number, or Invalid out of the SLOT's limits.
 fn scaled_line(slot: SlotRow, raw: u32) -> Line
-    requires { (1 ≤ slot.width) × (slot.width ≤ WidestShown) × (raw < 2 ^ slot.width) }
-    ensures { result ≡ cond (withinLimits slot raw) (numberLine slot raw) (Line.Invalid raw) }
+    requires { (1 ≤ slot.width) × (slot.width ≤ widest_shown) × (raw < 2 ^ slot.width) }
+    ensures { result ≡ cond (within_limits slot raw) (number_line slot raw) (Line.Invalid raw) }
 {
     if within_limits(slot, raw) {
         number_line(slot, raw)
@@ -128,8 +128,8 @@ fn scaled_line(slot: SlotRow, raw: u32) -> Line
 
 // SED: the State, or Unknown 5 out of the limits.
 fn state_line(slot: SlotRow, raw: u32) -> Line
-    requires { (1 ≤ slot.width) × (slot.width ≤ WidestShown) × (raw < 2 ^ slot.width) }
-    ensures { result ≡ cond (withinLimits slot raw) (Line.State raw) (Line.Unknown NoState) }
+    requires { (1 ≤ slot.width) × (slot.width ≤ widest_shown) × (raw < 2 ^ slot.width) }
+    ensures { result ≡ cond (within_limits slot raw) (Line.State raw) (Line.Unknown no_state_reason) }
 {
     if within_limits(slot, raw) {
         Line::State(raw)
@@ -140,7 +140,7 @@ fn state_line(slot: SlotRow, raw: u32) -> Line
 
 // ASC: whole bytes, all printable.
 fn text_line(width: u8, raw: u32) -> Line
-    ensures { result ≡ textLine width raw }
+    ensures { result ≡ text_line width raw }
 {
     if width % 8 != 0 {
         return Line::Unknown(NOT_SHOWN);
@@ -154,7 +154,7 @@ fn text_line(width: u8, raw: u32) -> Line
 
 // BCD: whole digits, none above 9.
 fn digits_line(width: u8, raw: u32) -> Line
-    ensures { result ≡ digitsLine width raw }
+    ensures { result ≡ digits_line width raw }
 {
     if width % 4 != 0 {
         return Line::Unknown(NOT_SHOWN);
@@ -168,8 +168,8 @@ fn digits_line(width: u8, raw: u32) -> Line
 
 // The line of an item by its form, from UNM to BCD, and of at most 32 bits.
 pub(crate) fn form_line(form: u8, width: u8, slot: SlotRow, raw: u32) -> Line
-    requires { (form < BMM) × (slot.width ≡ width) × (1 ≤ width) × (width ≤ WidestShown) × (raw < 2 ^ width) }
-    ensures { result ≡ formLine form width slot raw }
+    requires { (form < bmm) × (slot.width ≡ width) × (1 ≤ width) × (width ≤ widest_shown) × (raw < 2 ^ width) }
+    ensures { result ≡ form_line form width slot raw }
 {
     if form <= SNM {
         return scaled_line(slot, raw);

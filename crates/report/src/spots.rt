@@ -2,8 +2,8 @@
 ghost use Rattle.std.specs.Prelude.{◌≡◌, ◌≤◌};
 ghost use Rattle.std.proofs.Math.Option.{some};
 ghost use Rattle.catalogue.specs.Lookup.{catalogue};
-ghost use Rattle.report.specs.Spots.{spotAt, spot_of, behind};
-ghost use Rattle.report.specs.Contracts.{MostBits, Inside, Lying};
+ghost use Rattle.report.specs.Spots.{spot_at, spot_of, behind};
+ghost use Rattle.report.specs.Inner.{most_bits, Inside, Lying};
 
 use catalogue::lookup::find_prn;
 use catalogue::rows::{PrnFound, PrnRow};
@@ -28,8 +28,8 @@ pub enum Spot {
 
 // An item whose PRN was found.
 fn spot_at(row: PrnRow, to: usize, at: usize) -> Spot
-    requires { at ≤ MostBits }
-    ensures { result ≡ spotAt (some row) to at }
+    requires { at ≤ most_bits }
+    ensures { result ≡ spot_at (some row) to at }
 {
     if to < at + row.width as usize {
         return Spot::Over;
@@ -39,7 +39,7 @@ fn spot_at(row: PrnRow, to: usize, at: usize) -> Spot
 
 // The item of a PRN from a place on, in a window that ends at a bit.
 pub(crate) fn spot_of(s: &[u8], to: usize, place: Place, prn: u16) -> Spot
-    requires { (to ≤ MostBits) × Inside to place }
+    requires { (to ≤ most_bits) × Inside to place }
     ensures { result ≡ spot_of (catalogue s.now).prn to place prn }
 {
     match place {
@@ -57,7 +57,7 @@ pub(crate) fn spot_of(s: &[u8], to: usize, place: Place, prn: u16) -> Spot
 
 // The place behind an item.
 pub(crate) fn place_behind(spot: Spot) -> Place
-    requires { Lying MostBits spot }
+    requires { Lying most_bits spot }
     ensures { result ≡ behind spot }
 {
     match spot {

@@ -1,7 +1,7 @@
 // What the lines of a report add up to, counted as they are made.
 ghost use Rattle.std.specs.Prelude.{◌≡◌, false, ◌||◌, [], ◌*◌, ◌≤◌};
-ghost use Rattle.report.specs.Rows.{NumberRow};
-ghost use Rattle.report.specs.Contracts.{MostLines, weight, together, tally_of};
+ghost use Rattle.report.specs.Rows.{number_row_size};
+ghost use Rattle.report.specs.Inner.{most_lines, weight, together, tally_of};
 
 use crate::line::Line;
 use crate::row::{BARE_ROW, BYTE_ROW, CODE_ROW, NUMBER_ROW};
@@ -81,7 +81,7 @@ fn either(a: bool, b: bool) -> bool
 
 // The tally with one line more.
 pub(crate) fn tallied(tally: Tally, line: Line) -> Tally
-    requires { tally.size ≤ NumberRow * MostLines }
+    requires { tally.size ≤ number_row_size * most_lines }
     ensures { result ≡ together tally (weight line) }
 {
     let w = weight_of(line);

@@ -1,6 +1,6 @@
 // The verdict of lines, from what they add up to.
 ghost use Rattle.std.specs.Prelude.{◌≡◌};
-ghost use Rattle.report.specs.Verdict.{verdictBy};
+ghost use Rattle.report.specs.Verdict.{verdict_by};
 
 use crate::tally::Tally;
 
@@ -12,7 +12,7 @@ const VERDICT_UNKNOWN: u8 = 3;
 
 // Flagged, otherwise Unknown, otherwise Clear.
 pub(crate) fn verdict_of(tally: Tally) -> u8
-    ensures { result ≡ verdictBy tally.flagged tally.unknown }
+    ensures { result ≡ verdict_by tally.flagged tally.unknown }
 {
     if tally.flagged {
         return VERDICT_FLAGGED;

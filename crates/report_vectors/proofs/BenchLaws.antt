@@ -3,67 +3,67 @@
 use mathlib.Core.Path.{◌≡◌, refl}
 use mathlib.Core.List.{map}
 use lib.Ieee.{of_int, div, to_bits}
-use Rattle.frame.specs.Refusal.{firstBroken}
-use Rattle.frame.specs.Seal.{isSealedBy}
-use Rattle.frame.specs.CheckByte.{step, steps, feed, register, checkByte}
-use Rattle.frame.specs.Response.{sent, responseSize}
-use Rattle.frame.specs.Count.{countRules, countRefusal}
-use Rattle.frame.specs.Header.{headerSize, typeTable, responseKind, kindAsked}
+use Rattle.frame.specs.Refusal.{first_broken}
+use Rattle.frame.specs.Seal.{is_sealed_by}
+use Rattle.frame.specs.CheckByte.{step, steps, feed, register, check_byte}
+use Rattle.frame.specs.Response.{sent, response_size}
+use Rattle.frame.specs.Count.{count_rules, count_refusal}
+use Rattle.frame.specs.Header.{header_size, type_table, response_kind, kind_asked}
 use Rattle.frame.specs.Frame.{parts_at}
-use Rattle.frame.specs.Reader.{readRulesWith, readRules, readRefusal, parts_of, readFrame}
-use Rattle.frame.specs.Iso.{sum, sumByte, wrongFirst, isoReadRules, isoReadRefusal}
-use Rattle.catalogue.specs.Rows.{inOrder}
-use Rattle.catalogue.specs.Tables.{slotRows, prnRows}
-use Rattle.catalogue.specs.Search.{firstWhere, isFound}
-use Rattle.catalogue.specs.Sae.{saeSlot, saePrn}
-use Rattle.catalogue.specs.Kind.{kinds, kindFound, known, orUnknown, recordSize, keySize}
-use Rattle.catalogue.specs.Record.{has_key, recordWith, two, numbers, layoutRow, allZero, headerFits, selectorFits, layoutFits}
-use Rattle.catalogue.specs.Record.{in_range, inSae, faultRules, fault}
-use Rattle.catalogue.specs.Supplement.{recordsIn, recordsOf, checkFrom, check}
-use Rattle.catalogue.specs.Lookup.{orRecord, catalogueOf, lengthFor}
+use Rattle.frame.specs.Reader.{read_rules_with, read_rules, read_refusal, parts_of, read_frame}
+use Rattle.frame.specs.Iso.{sum, sum_byte, wrong_first, iso_read_rules, iso_read_refusal}
+use Rattle.catalogue.specs.Rows.{in_order}
+use Rattle.catalogue.specs.Tables.{slot_rows, prn_rows}
+use Rattle.catalogue.specs.Search.{first_where, is_found}
+use Rattle.catalogue.specs.Sae.{sae_slot, sae_prn}
+use Rattle.catalogue.specs.Kind.{kinds, kind_found, known, or_unknown, record_size, key_size}
+use Rattle.catalogue.specs.Record.{has_key, record_with, two, numbers, layout_row, all_zero, header_fits, selector_fits, layout_fits}
+use Rattle.catalogue.specs.Record.{in_range, in_sae, fault_rules, fault}
+use Rattle.catalogue.specs.Supplement.{records_in, records_of, check_from, check}
+use Rattle.catalogue.specs.Lookup.{or_record, catalogue_of, length_for}
 use Rattle.report.specs.Bits.{bit_at, cut}
-use Rattle.report.specs.Scaling.{signed, pattern, rawNumber, above, quotient, numberLine, withinLimits, formLine}
-use Rattle.report.specs.Spots.{spotAt, spot_of, spots, placeAfter}
-use Rattle.report.specs.Items.{slotLine, itemLine}
-use Rattle.report.specs.Verdict.{any, verdictOf}
-use Rattle.report.specs.Report.{keyByte, keyTarget, remainderAt, group_of, responseLine, reportOf, groupLines, lines_of, verdict}
-use Rattle.report.specs.Rows.{bigEndian, row, rows_of, reportBytes}
-use Rattle.report.specs.Answer.{fitted, answer_of, reportAnswer}
-use Rattle.report_vectors.specs.BenchCases.{benchCases, wholeCases, isoCases, selectorCases, recordCases, lineBy, answered, expected}
+use Rattle.report.specs.Scaling.{signed, pattern, raw_number, above, quotient, number_line, within_limits, form_line}
+use Rattle.report.specs.Spots.{spot_at, spot_of, spots, place_after}
+use Rattle.report.specs.Items.{slot_line, item_line}
+use Rattle.report.specs.Verdict.{any, verdict_of}
+use Rattle.report.specs.Report.{key_byte, key_target, remainder_at, group_of, response_line, report_of, group_lines, lines_of, verdict}
+use Rattle.report.specs.Rows.{big_endian, row, rows_of, report_bytes}
+use Rattle.report.specs.Answer.{fitted, answer_of, report_answer}
+use Rattle.report_vectors.specs.BenchCases.{bench_cases, whole_cases, iso_cases, selector_cases, record_cases, line_by, answered, expected}
 
 -- In every case of the table the definitions answer what is expected.
-pub bench-cases-hold : map answered benchCases ≡ map expected benchCases
-unfolding benchCases answered expected lineBy formLine withinLimits inOrder pattern numberLine quotient above rawNumber signed of_int div
-    saeSlot firstWhere slotRows readRefusal readRules readRulesWith firstBroken headerSize
-bench-cases-hold = refl
+pub bench_cases_hold : map answered bench_cases ≡ map expected bench_cases
+unfolding bench_cases answered expected line_by form_line within_limits in_order pattern number_line quotient above raw_number signed of_int div
+    sae_slot first_where slot_rows read_refusal read_rules read_rules_with first_broken header_size
+bench_cases_hold = refl
 
 -- From the bytes of supplement and frame to those of the rows: three tables by one computed test.
-reports-hold :
-    (map answered wholeCases ≡ map expected wholeCases)
-    × (map answered selectorCases ≡ map expected selectorCases)
-    × (map answered recordCases ≡ map expected recordCases)
-unfolding wholeCases selectorCases recordCases answered expected reportAnswer answer_of fitted
-    check checkFrom fault faultRules in_range inSae layoutFits selectorFits headerFits allZero recordsOf recordsIn recordSize keySize
-    kinds kindFound known orUnknown firstBroken readFrame readRefusal readRules readRulesWith parts_of parts_at headerSize
-    typeTable responseKind kindAsked countRules countRefusal sent responseSize isSealedBy checkByte register feed steps step
-    catalogueOf orRecord recordWith has_key layoutRow numbers two saePrn prnRows saeSlot slotRows firstWhere isFound
-    reportOf keyByte keyTarget lengthFor group_of spots spot_of spotAt placeAfter itemLine slotLine cut bit_at formLine withinLimits inOrder
-    pattern numberLine quotient above rawNumber signed of_int div remainderAt responseLine groupLines lines_of verdict verdictOf any
-    reportBytes rows_of row bigEndian to_bits
-reports-hold = (refl, refl, refl)
+reports_hold :
+    (map answered whole_cases ≡ map expected whole_cases)
+    × (map answered selector_cases ≡ map expected selector_cases)
+    × (map answered record_cases ≡ map expected record_cases)
+unfolding whole_cases selector_cases record_cases answered expected report_answer answer_of fitted
+    check check_from fault fault_rules in_range in_sae layout_fits selector_fits header_fits all_zero records_of records_in record_size key_size
+    kinds kind_found known or_unknown first_broken read_frame read_refusal read_rules read_rules_with parts_of parts_at header_size
+    type_table response_kind kind_asked count_rules count_refusal sent response_size is_sealed_by check_byte register feed steps step
+    catalogue_of or_record record_with has_key layout_row numbers two sae_prn prn_rows sae_slot slot_rows first_where is_found
+    report_of key_byte key_target length_for group_of spots spot_of spot_at place_after item_line slot_line cut bit_at form_line within_limits in_order
+    pattern number_line quotient above raw_number signed of_int div remainder_at response_line group_lines lines_of verdict verdict_of any
+    report_bytes rows_of row big_endian to_bits
+reports_hold = (refl, refl, refl)
 
 -- "Document 01's whole report becomes 44 bytes"
-pub whole-cases-hold : map answered wholeCases ≡ map expected wholeCases
-whole-cases-hold = reports-hold.0
+pub whole_cases_hold : map answered whole_cases ≡ map expected whole_cases
+whole_cases_hold = reports_hold.0
 
 -- Document 02, K5: what is shown with a selector of each length,
-pub selector-cases-hold : map answered selectorCases ≡ map expected selectorCases
-selector-cases-hold = reports-hold.1
+pub selector_cases_hold : map answered selector_cases ≡ map expected selector_cases
+selector_cases_hold = reports_hold.1
 
 -- and which records are refused: "Refusals: 13, 14, as for other kinds."
-pub record-cases-hold : map answered recordCases ≡ map expected recordCases
-record-cases-hold = reports-hold.2
+pub record_cases_hold : map answered record_cases ≡ map expected record_cases
+record_cases_hold = reports_hold.2
 
-pub iso-cases-hold : map answered isoCases ≡ map expected isoCases
-unfolding isoCases answered expected isoReadRefusal isoReadRules firstBroken isSealedBy sumByte sum wrongFirst
-iso-cases-hold = refl
+pub iso_cases_hold : map answered iso_cases ≡ map expected iso_cases
+unfolding iso_cases answered expected iso_read_refusal iso_read_rules first_broken is_sealed_by sum_byte sum wrong_first
+iso_cases_hold = refl

@@ -8,89 +8,89 @@ use lib.IntN.{pos}
 use lib.ListN.{get_or}
 use Rattle.frame.specs.declared.response.ResponseKind.TheVariants.{Empty}
 use lib.Ieee.{of_int, div, to_bits}
-use Rattle.frame.specs.Refusal.{accepted, firstBroken}
-use Rattle.frame.specs.Seal.{isSealedBy}
-use Rattle.frame.specs.CheckByte.{step, steps, feed, register, checkByte}
-use Rattle.frame.specs.Response.{sent, responseSize}
-use Rattle.frame.specs.Count.{countRules, countRefusal}
-use Rattle.frame.specs.Header.{headerSize, typeTable, responseKind, kindAsked}
+use Rattle.frame.specs.Refusal.{accepted, first_broken}
+use Rattle.frame.specs.Seal.{is_sealed_by}
+use Rattle.frame.specs.CheckByte.{step, steps, feed, register, check_byte}
+use Rattle.frame.specs.Response.{sent, response_size}
+use Rattle.frame.specs.Count.{count_rules, count_refusal}
+use Rattle.frame.specs.Header.{header_size, type_table, response_kind, kind_asked}
 use Rattle.frame.specs.Frame.{Parts, parts_at}
-use Rattle.frame.specs.Reader.{readRulesWith, readRules, readRefusal, parts_of, readFrame}
-use Rattle.catalogue.specs.Rows.{inOrder}
-use Rattle.catalogue.specs.Tables.{slotRows, prnRows}
-use Rattle.catalogue.specs.Search.{firstWhere, isFound}
-use Rattle.catalogue.specs.Sae.{saeSlot, saePrn}
-use Rattle.catalogue.specs.Kind.{kinds, kindFound, known, orUnknown, recordSize, keySize}
-use Rattle.catalogue.specs.Record.{has_key, recordWith, two, numbers, layoutRow, allZero}
-use Rattle.catalogue.specs.Record.{headerFits, selectorFits, layoutFits, in_range, inSae, faultRules, fault}
-use Rattle.catalogue.specs.Supplement.{NoNewSelector, recordsIn, recordsOf, checkFrom, check}
-use Rattle.catalogue.specs.Lookup.{orRecord, catalogueOf, lengthFor}
+use Rattle.frame.specs.Reader.{read_rules_with, read_rules, read_refusal, parts_of, read_frame}
+use Rattle.catalogue.specs.Rows.{in_order}
+use Rattle.catalogue.specs.Tables.{slot_rows, prn_rows}
+use Rattle.catalogue.specs.Search.{first_where, is_found}
+use Rattle.catalogue.specs.Sae.{sae_slot, sae_prn}
+use Rattle.catalogue.specs.Kind.{kinds, kind_found, known, or_unknown, record_size, key_size}
+use Rattle.catalogue.specs.Record.{has_key, record_with, two, numbers, layout_row, all_zero}
+use Rattle.catalogue.specs.Record.{header_fits, selector_fits, layout_fits, in_range, in_sae, fault_rules, fault}
+use Rattle.catalogue.specs.Supplement.{NoNewSelector, records_in, records_of, check_from, check}
+use Rattle.catalogue.specs.Lookup.{or_record, catalogue_of, length_for}
 use Rattle.report.specs.Bits.{bit_at, cut}
-use Rattle.report.specs.Scaling.{signed, pattern, rawNumber, above, quotient, numberLine, withinLimits, formLine}
-use Rattle.report.specs.Spots.{spotAt, spot_of, spots}
-use Rattle.report.specs.Items.{slotLine, itemLine}
-use Rattle.report.specs.Report.{keyByte, keyTarget, group_of, reportOf}
-use Rattle.report.specs.Rows.{bigEndian, row}
+use Rattle.report.specs.Scaling.{signed, pattern, raw_number, above, quotient, number_line, within_limits, form_line}
+use Rattle.report.specs.Spots.{spot_at, spot_of, spots}
+use Rattle.report.specs.Items.{slot_line, item_line}
+use Rattle.report.specs.Report.{key_byte, key_target, group_of, report_of}
+use Rattle.report.specs.Rows.{big_endian, row}
 use Rattle.report.specs.Answer.{under}
-use Rattle.report.specs.Demand.{item, itemIn, line_at}
-use Rattle.report_vectors.specs.BenchCases.{number, selector, oneItem, oneByteSelector, noSelector, shortFrame}
+use Rattle.report.specs.Demand.{item, item_in, line_at}
+use Rattle.report_vectors.specs.BenchCases.{number, selector, one_item, one_byte_selector, no_selector, short_frame}
 use Rattle.report_vectors.specs.Premise.{PremiseNeeded}
 
-first-records : recordsOf oneByteSelector ≡ oneByteSelector ∷ []
-unfolding recordsOf recordsIn recordSize orUnknown kindFound kinds firstWhere
-first-records = refl
+first_records : records_of one_byte_selector ≡ one_byte_selector ∷ []
+unfolding records_of records_in record_size or_unknown kind_found kinds first_where
+first_records = refl
 
-second-records : recordsOf noSelector ≡ oneByteSelector ∷ selector 0 ∷ oneItem 0 0 0 0x10 0x25 ∷ []
-unfolding recordsOf recordsIn recordSize orUnknown kindFound kinds firstWhere
-second-records = refl
+second_records : records_of no_selector ≡ one_byte_selector ∷ selector 0 ∷ one_item 0 0 0 0x10 0x25 ∷ []
+unfolding records_of records_in record_size or_unknown kind_found kinds first_where
+second_records = refl
 
 abbrev frame : Parts
 frame = record { header = 0x48 ∷ 0x6B ∷ 0x10 ∷ []; body = 0x41 ∷ 0x65 ∷ []; kind = Empty; response = [] }
 
-accepted-both : ((check oneByteSelector).refusal ≡ 0) × ((check noSelector).refusal ≡ 0)
-unfolding check checkFrom fault faultRules in_range inSae layoutFits selectorFits headerFits allZero recordsOf recordsIn recordSize keySize
-    kinds kindFound known orUnknown firstBroken recordWith has_key firstWhere isFound
-accepted-both = (refl, refl)
+accepted_both : ((check one_byte_selector).refusal ≡ 0) × ((check no_selector).refusal ≡ 0)
+unfolding check check_from fault fault_rules in_range in_sae layout_fits selector_fits header_fits all_zero records_of records_in record_size key_size
+    kinds kind_found known or_unknown first_broken record_with has_key first_where is_found
+accepted_both = (refl, refl)
 
-read : readFrame shortFrame [] ≡ accepted frame
-unfolding readFrame readRefusal readRules readRulesWith parts_of parts_at headerSize typeTable responseKind kindAsked countRules countRefusal sent
-    responseSize isSealedBy checkByte register feed steps step firstBroken
+read : read_frame short_frame [] ≡ accepted frame
+unfolding read_frame read_refusal read_rules read_rules_with parts_of parts_at header_size type_table response_kind kind_asked count_rules count_refusal sent
+    response_size is_sealed_by check_byte register feed steps step first_broken
 read = refl
 
 lines :
-    (line_at (under oneByteSelector frame) (item 0 0) ≡ some (number (pos 101) (pos 101) 1))
-    × (line_at (under noSelector frame) (item 0 0) ≡ some (number (pos 65) (pos 65) 1))
-unfolding recordsOf recordsIn recordSize kinds kindFound orUnknown catalogueOf orRecord lengthFor recordWith has_key layoutRow numbers two
-    saePrn prnRows saeSlot slotRows firstWhere reportOf keyByte keyTarget group_of spots spot_of spotAt itemLine slotLine cut bit_at formLine
-    withinLimits inOrder pattern numberLine quotient above rawNumber signed of_int div line_at itemIn
+    (line_at (under one_byte_selector frame) (item 0 0) ≡ some (number (pos 101) (pos 101) 1))
+    × (line_at (under no_selector frame) (item 0 0) ≡ some (number (pos 65) (pos 65) 1))
+unfolding records_of records_in record_size kinds kind_found or_unknown catalogue_of or_record length_for record_with has_key layout_row numbers two
+    sae_prn prn_rows sae_slot slot_rows first_where report_of key_byte key_target group_of spots spot_of spot_at item_line slot_line cut bit_at form_line
+    within_limits in_order pattern number_line quotient above raw_number signed of_int div line_at item_in
 lines = (refl, refl)
 
 -- The first supplement's only record is none of kind 4.
-broken : NoNewSelector (recordsOf oneByteSelector) (recordsOf noSelector) → ⊥
+broken : NoNewSelector (records_of one_byte_selector) (records_of no_selector) → ⊥
 broken kept =
-    let there : Memᴰ (selector 0) (recordsOf noSelector) =
-    subst (Memᴰ (selector 0)) (sym second-records) (mathlib.Core.List.Memᴰ.tail (mathlib.Core.List.Memᴰ.head refl)) in
-    let own : Memᴰ oneByteSelector (recordsOf oneByteSelector) =
-    subst (Memᴰ oneByteSelector) (sym first-records) (mathlib.Core.List.Memᴰ.head refl) in
-    let stands = subst (Memᴰ (selector 0)) first-records (kept (selector 0) oneByteSelector there refl own refl refl) in
+    let there : Memᴰ (selector 0) (records_of no_selector) =
+    subst (Memᴰ (selector 0)) (sym second_records) (mathlib.Core.List.Memᴰ.tail (mathlib.Core.List.Memᴰ.head refl)) in
+    let own : Memᴰ one_byte_selector (records_of one_byte_selector) =
+    subst (Memᴰ one_byte_selector) (sym first_records) (mathlib.Core.List.Memᴰ.head refl) in
+    let stands = subst (Memᴰ (selector 0)) first_records (kept (selector 0) one_byte_selector there refl own refl refl) in
     let kind : ◌≡◌ {A = ℕ} 4 3 = ap (λ (r : List ℕ). get_or r 0 0) (mathlib.Core.List.Memᴰ.eq_of_singleton stands) in
     omega arith
 
 -- The whole number above the line is in the row of a Number.
 differs : row (number (pos 101) (pos 101) 1) ≡ row (number (pos 65) (pos 65) 1) → ⊥
-unfolding row bigEndian of_int to_bits
+unfolding row big_endian of_int to_bits
 differs e = let above : ◌≡◌ {A = ℕ} 101 65 = ap (λ (r : List ℕ). get_or r 16 0) e in omega arith
 
 -- "two supplements that break it and a frame whose shown line changes"
-pub premise-needed : PremiseNeeded
-premise-needed =
+pub premise_needed : PremiseNeeded
+premise_needed =
     record {
-      accepted-first = accepted-both.0;
-      accepted-second = accepted-both.1;
+      accepted_first = accepted_both.0;
+      accepted_second = accepted_both.1;
       among =
           λ r m.
-          subst (Memᴰ r) (sym second-records)
-          (mathlib.Core.List.Memᴰ.head (mathlib.Core.List.Memᴰ.eq_of_singleton (subst (Memᴰ r) first-records m)));
+          subst (Memᴰ r) (sym second_records)
+          (mathlib.Core.List.Memᴰ.head (mathlib.Core.List.Memᴰ.eq_of_singleton (subst (Memᴰ r) first_records m)));
       broken = broken;
       parts = frame;
       read = read;
@@ -98,7 +98,7 @@ premise-needed =
       known = refl;
       otherwise = lines.1;
       differs = differs;
-      not-kept =
+      not_kept =
           λ k.
           let same : some (number (pos 101) (pos 101) 1) ≡ some (number (pos 65) (pos 65) 1) = sym (k.shown (item 0 0) _ lines.0 refl) ∙ lines.1 in
           let line : number (pos 101) (pos 101) 1 ≡ number (pos 65) (pos 65) 1 = cc in

@@ -5,7 +5,7 @@
 // of a buffer. The answer is shown with the lent bytes and the two behind them. The bench cases stand first, and the file `names`
 // beside `stdin` names each; P1 to P13 and those of ISO 9141-2 are proved of the definitions in proofs/BenchLaws.antt.
 ghost use Rattle.std.specs.Prelude.{◌≡◌, ◌<◌, length};
-ghost use Rattle.report_vectors.specs.Input.{SupplementBuffer, NumberEnd};
+ghost use Rattle.report_vectors.specs.Input.{supplement_buffer, number_end};
 
 use libc::{STDIN_FILENO, STDOUT_FILENO};
 
@@ -44,18 +44,18 @@ struct Number {
 }
 
 fn supplement_buffer() -> [u8; SUPPLEMENT]
-    ensures { SupplementBuffer ≡ length result }
+    ensures { supplement_buffer ≡ length result }
 {
     [0; SUPPLEMENT]
 }
 
 fn read_number() -> Number
-    ensures { result.value < NumberEnd }
+    ensures { result.value < number_end }
 {
     let mut text = [0u8; HEAD];
     let got = io::read_full(STDIN_FILENO, &mut text);
-    let high = hex::byte_from(&text, 0) as usize;
-    let low = hex::byte_from(&text, BYTE_DIGITS) as usize;
+    let high = hex_text::byte_from(&text, 0) as usize;
+    let low = hex_text::byte_from(&text, BYTE_DIGITS) as usize;
     Number {
         there: got == HEAD,
         value: high * BYTE_VALUES + low,
@@ -64,7 +64,7 @@ fn read_number() -> Number
 
 // So many characters, as far as there is room.
 fn read_text(text: &mut [u8], size: usize) -> usize {
-    let part = hex::fewer(size, text.len());
+    let part = hex_text::fewer(size, text.len());
     io::read_full(STDIN_FILENO, &mut text[..part])
 }
 
@@ -75,7 +75,7 @@ fn read_run(run: &mut [u8]) -> Number {
     let size = n * BYTE_DIGITS + 1;
     let mut text = io::large_buffer();
     let got = read_text(&mut text, size);
-    hex::fill(&text, run);
+    hex_text::fill(&text, run);
     Number {
         there: got == size && n <= run.len(),
         value: n,
@@ -84,8 +84,8 @@ fn read_run(run: &mut [u8]) -> Number {
 
 fn show_bytes(bytes: &[u8]) {
     let mut text = [0u8; TEXT];
-    let n = hex::write_text(bytes, &mut text);
-    io::write_all(STDOUT_FILENO, hex::counted(&text, n));
+    let n = hex_text::write_text(bytes, &mut text);
+    io::write_all(STDOUT_FILENO, hex_text::counted(&text, n));
 }
 
 // The report into so many bytes of a buffer.
@@ -97,7 +97,7 @@ fn report_into(
     out: &mut [u8],
     room: usize,
 ) -> u64 {
-    let lent = hex::fewer(room, out.len());
+    let lent = hex_text::fewer(room, out.len());
     if bus == J1850 {
         c_api::rakhubole_j1850_report(supplement, first, response, &mut out[..lent])
     } else {
@@ -106,13 +106,13 @@ fn report_into(
 }
 
 fn run_case(bus: u8, supplement: &[u8], first: &[u8], response: &[u8], room: usize)
-    requires { room < NumberEnd }
+    requires { room < number_end }
 {
     let mut out = [FILLING; BUFFER];
     let answer = report_into(bus, supplement, first, response, &mut out, room);
     io::print_hex(STDOUT_FILENO, answer, WORD_DIGITS);
     io::write_all(STDOUT_FILENO, b" ");
-    show_bytes(hex::counted(&out, room + BEHIND));
+    show_bytes(hex_text::counted(&out, room + BEHIND));
     io::write_all(STDOUT_FILENO, b"\n");
 }
 
@@ -132,9 +132,9 @@ fn next_case() -> bool {
     }
     run_case(
         bus[0],
-        hex::counted(&supplement, s.value),
-        hex::counted(&first, f.value),
-        hex::counted(&response, r.value),
+        hex_text::counted(&supplement, s.value),
+        hex_text::counted(&first, f.value),
+        hex_text::counted(&response, r.value),
         room.value,
     );
     true

@@ -2,31 +2,31 @@
 use Rattle.std.proofs.Common.{◌≡◌, ℕ, ◌+◌, ◌≤◌, Bool, true, false, cond, ◌||◌, eqb, ltb, List, length, drop, sym, refl, ◌∙◌, subst, arith, length-take, ltb-true, le-ltb}
 use mathlib.Core.Option.{Option, none, some}
 use mathlib.Core.Option.{map}
-use Rattle.frame.specs.Frame.{Frame, frameSize, MostBytes}
-use Rattle.frame.specs.Refusal.{Outcome, refused, accepted, outcome, NoRefusal, TooLong, OutputShort}
-use Rattle.stream.specs.Record.{firstLength, secondLength, RunsAt, runsIn, tells}
+use Rattle.frame.specs.Frame.{Frame, frame_size, most_bytes}
+use Rattle.frame.specs.Refusal.{Outcome, refused, accepted, outcome, no_refusal, too_long, output_short}
+use Rattle.stream.specs.Record.{first_length, second_length, runs_at, runs_in, tells}
 use Rattle.stream.specs.Stream.{Event}
-use Rattle.stream.specs.Reader.{Position, eventAt, outgrows, within, toldWithin, told, reach}
-use Rattle.stream.specs.Calls.{isShort}
-use Rattle.frame.specs.Count.{countRules}
-use Rattle.frame.specs.Reader.{readRulesWith, readRules, readRefusal, parts_of, readFrame}
-use Rattle.frame.specs.Iso.{isoReadRules, isoReadRefusal, isoParts, readIso}
+use Rattle.stream.specs.Reader.{Position, event_at, outgrows, within, told_within, told, reach}
+use Rattle.stream.specs.Calls.{is_short}
+use Rattle.frame.specs.Count.{count_rules}
+use Rattle.frame.specs.Reader.{read_rules_with, read_rules, read_refusal, parts_of, read_frame}
+use Rattle.frame.specs.Iso.{iso_read_rules, iso_read_refusal, iso_parts, read_iso}
 use Rattle.frame.proofs.bytes.Laws.{cases}
 use Rattle.frame.proofs.refusal.Laws.{given_by}
-use Rattle.stream.proofs.record.Laws.{fit-within, told-by}
-use Rattle.stream.proofs.reader.Events.{event-is}
+use Rattle.stream.proofs.record.Laws.{fit_within, told_by}
+use Rattle.stream.proofs.reader.Events.{event_is}
 
 -- A frame is of twelve bytes at most.
 abbrev Fits : Outcome Frame → Type 0
 Fits (refused n) = Unit {0}
-Fits (accepted f) = frameSize f ≤ MostBytes
+Fits (accepted f) = frame_size f ≤ most_bytes
 
-record-fits : (r : List ℕ) (o : Outcome Frame) → tells r ≡ some o → Fits o
-unfolding runsIn
-record-fits r o e =
-    let first = length-take (firstLength r) (drop RunsAt r) in
-    let second = length-take (secondLength r) (drop (RunsAt + firstLength r) r) in
-    told-by r o e (λ k w h. subst Fits h (omega (arith, fit-within r w, first, second))) (λ k h. subst Fits h tt) (λ f t h. subst Fits h tt)
+record_fits : (r : List ℕ) (o : Outcome Frame) → tells r ≡ some o → Fits o
+unfolding runs_in
+record_fits r o e =
+    let first = length-take (first_length r) (drop runs_at r) in
+    let second = length-take (second_length r) (drop (runs_at + first_length r) r) in
+    told_by r o e (λ k w h. subst Fits h (omega (arith, fit_within r w, first, second))) (λ k h. subst Fits h tt) (λ f t h. subst Fits h tt)
 
 abbrev AllFits : Option (Outcome Frame) → Type 0
 AllFits none = Unit {0}
@@ -36,16 +36,16 @@ abbrev EventFits : Option Event → Type 0
 EventFits none = Unit {0}
 EventFits (some e) = Fits e.told
 
-event-fits : (p : Position) (x : Option Event) → eventAt p ≡ x → EventFits x
-event-fits p none e = tt
-event-fits p (some y) e = record-fits p.begun y.told (event-is p y e).record-tells
+event_fits : (p : Position) (x : Option Event) → event_at p ≡ x → EventFits x
+event_fits p none e = tt
+event_fits p (some y) e = record_fits p.begun y.told (event_is p y e).record_tells
 
 -- "a frame that is given has two runs of at most twelve bytes together"
-pub given-within : (p : Position) (part : List ℕ) (room : ℕ) (f : Frame) → toldWithin p part room ≡ some (accepted f) → frameSize f ≤ MostBytes
-given-within p part room f e =
-    subst AllFits e (go (told p part) (event-fits (reach p part).position (told p part) refl))
+pub given_within : (p : Position) (part : List ℕ) (room : ℕ) (f : Frame) → told_within p part room ≡ some (accepted f) → frame_size f ≤ most_bytes
+given_within p part room f e =
+    subst AllFits e (go (told p part) (event_fits (reach p part).position (told p part) refl))
   where
-    lent : (o : Outcome Frame) (t : Bool) → Fits o → Fits (cond t (refused OutputShort) o)
+    lent : (o : Outcome Frame) (t : Bool) → Fits o → Fits (cond t (refused output_short) o)
     lent o true w = tt
     lent o false w = w
 
@@ -54,14 +54,14 @@ given-within p part room f e =
     go (some y) w = lent y.told (outgrows y.told room) w
 
 -- Twelve bytes of output are always enough.
-pub never-short : (p : Position) (part : List ℕ) (room : ℕ) → MostBytes ≤ room → isShort (told p part) room ≡ false
-never-short p part room l = go (told p part) (event-fits (reach p part).position (told p part) refl)
+pub never_short : (p : Position) (part : List ℕ) (room : ℕ) → most_bytes ≤ room → is_short (told p part) room ≡ false
+never_short p part room l = go (told p part) (event_fits (reach p part).position (told p part) refl)
   where
     fits : (o : Outcome Frame) → Fits o → outgrows o room ≡ false
     fits (refused n) w = refl
-    fits (accepted f) w = le-ltb room (frameSize f) (omega (arith, l, w))
+    fits (accepted f) w = le-ltb room (frame_size f) (omega (arith, l, w))
 
-    go : (x : Option Event) → EventFits x → isShort x room ≡ false
+    go : (x : Option Event) → EventFits x → is_short x room ≡ false
     go none w = refl
     go (some y) w = fits y.told w
 
@@ -70,30 +70,30 @@ only true e = refl
 only false e = e
 
 -- "so that the reader of frames never refuses it with 1": refusal 1 is the first rule's alone, on either bus.
-refused-by : {A : Type 0} (n m : ℕ) (a : A) → outcome n a ≡ refused m → n ≡ m
-refused-by n m a e =
-    cases (eqb n NoRefusal)
+refused_by : {A : Type 0} (n m : ℕ) (a : A) → outcome n a ≡ refused m → n ≡ m
+refused_by n m a e =
+    cases (eqb n no_refusal)
     (λ t. absurd (let o : accepted a ≡ refused m = sym (rw t refl) ∙ e in let z : ◌≡◌ {A = ℕ} 0 1 = cc in omega arith))
     (λ t. let o : refused n ≡ refused m = sym (rw t refl) ∙ e in cc)
 
-j1850-size : (first response : List ℕ) → readFrame first response ≡ refused TooLong → ltb MostBytes (length first + length response) ≡ true
-unfolding readFrame readRefusal readRules readRulesWith countRules
-j1850-size first response e =
-    only (ltb MostBytes (length first + length response))
-    (given_by TooLong (readRules first response) (omega arith) (refused-by (readRefusal first response) TooLong (parts_of first response) e))
+j1850_size : (first response : List ℕ) → read_frame first response ≡ refused too_long → ltb most_bytes (length first + length response) ≡ true
+unfolding read_frame read_refusal read_rules read_rules_with count_rules
+j1850_size first response e =
+    only (ltb most_bytes (length first + length response))
+    (given_by too_long (read_rules first response) (omega arith) (refused_by (read_refusal first response) too_long (parts_of first response) e))
 
-iso-size : (run : List ℕ) → readIso run ≡ refused TooLong → ltb MostBytes (length run) ≡ true
-unfolding readIso isoReadRefusal isoReadRules
-iso-size run e =
-    only (ltb MostBytes (length run))
-    (given_by TooLong (isoReadRules run) (omega arith) (refused-by (isoReadRefusal run) TooLong (isoParts run) e))
+iso_size : (run : List ℕ) → read_iso run ≡ refused too_long → ltb most_bytes (length run) ≡ true
+unfolding read_iso iso_read_refusal iso_read_rules
+iso_size run e =
+    only (ltb most_bytes (length run))
+    (given_by too_long (iso_read_rules run) (omega arith) (refused_by (iso_read_refusal run) too_long (iso_parts run) e))
 
-pub never-too-long :
+pub never_too_long :
     (p : Position) (part : List ℕ) (room : ℕ) (f : Frame)
-    → toldWithin p part room ≡ some (accepted f)
-    → (readFrame f.first f.response ≡ refused TooLong → ⊥) × (readIso f.first ≡ refused TooLong → ⊥)
-never-too-long p part room f e =
-    let few = given-within p part room f e in (
-      λ z. let over = ltb-true MostBytes (frameSize f) (j1850-size f.first f.response z) in omega (arith, few, over),
-      λ z. let over = ltb-true MostBytes (length f.first) (iso-size f.first z) in omega (arith, few, over),
+    → told_within p part room ≡ some (accepted f)
+    → (read_frame f.first f.response ≡ refused too_long → ⊥) × (read_iso f.first ≡ refused too_long → ⊥)
+never_too_long p part room f e =
+    let few = given_within p part room f e in (
+      λ z. let over = ltb-true most_bytes (frame_size f) (j1850_size f.first f.response z) in omega (arith, few, over),
+      λ z. let over = ltb-true most_bytes (length f.first) (iso_size f.first z) in omega (arith, few, over),
     )

@@ -5,4 +5,4 @@ pub mod Reader
 pub mod State
 pub mod Calls
 pub mod Cuts
-pub mod Contracts
+pub mod Inner

@@ -2,13 +2,13 @@
 use Rattle.std.specs.Prelude.{ℕ}
 
 -- "unknown kind (that byte is taken)"
-abbrev pub StreamKindUnknown : ℕ
-StreamKindUnknown = 60
+abbrev pub stream_kind_unknown : ℕ
+stream_kind_unknown = 60
 
 -- "lengths over 12 together or unused bytes not zero"
-abbrev pub StreamRecordWrong : ℕ
-StreamRecordWrong = 61
+abbrev pub stream_record_wrong : ℕ
+stream_record_wrong = 61
 
 -- "stream ended inside a record"
-abbrev pub StreamCut : ℕ
-StreamCut = 62
+abbrev pub stream_cut : ℕ
+stream_cut = 62

@@ -1,49 +1,49 @@
 -- The state of 24 bytes that a caller keeps between calls.
 use Rattle.std.specs.Prelude.{ℕ, zero, suc, ◌+◌, ◌-◌, ◌*◌, ◌/◌, ◌%◌, ◌^◌, cond, not, List, [], ◌∷◌, ◌++◌, length, take, drop, replicate, ◌==◌, slice_index}
-use Rattle.stream.specs.Reader.{Position, orNone}
+use Rattle.stream.specs.Reader.{Position, or_none}
 
 -- Bytes 0 to 7 the place, byte 8 stopped, byte 9 the count, bytes 10 to 23 the bytes held.
-abbrev pub PlaceBytes : ℕ
-PlaceBytes = 8
+abbrev pub place_bytes : ℕ
+place_bytes = 8
 
-abbrev pub StoppedAt : ℕ
-StoppedAt = 8
+abbrev pub stopped_place : ℕ
+stopped_place = 8
 
-abbrev pub CountAt : ℕ
-CountAt = 9
+abbrev pub count_place : ℕ
+count_place = 9
 
-abbrev pub HeldAt : ℕ
-HeldAt = 10
+abbrev pub held_place : ℕ
+held_place = 10
 
-abbrev pub MostHeld : ℕ
-MostHeld = 14
+abbrev pub most_held : ℕ
+most_held = 14
 
-abbrev pub StateBytes : ℕ
-StateBytes = HeldAt + MostHeld
+abbrev pub state_bytes : ℕ
+state_bytes = held_place + most_held
 
 -- The number that so many bytes make, and the bytes of a number, the most significant first.
 unfoldable pub number_in : ℕ → List ℕ → ℕ
 number_in zero s = 0
 number_in (suc n) s = number_in n s * 256 + slice_index s n
 
-unfoldable pub bigEndian : ℕ → ℕ → List ℕ
-bigEndian zero x = []
-bigEndian (suc n) x = x / 256 ^ n % 256 ∷ bigEndian n x
+unfoldable pub big_endian : ℕ → ℕ → List ℕ
+big_endian zero x = []
+big_endian (suc n) x = x / 256 ^ n % 256 ∷ big_endian n x
 
 -- The position that any 24 bytes are, and the bytes of a position.
-unfoldable pub positionIn : List ℕ → Position
-positionIn s =
+unfoldable pub position_in : List ℕ → Position
+position_in s =
     record {
-      place = number_in PlaceBytes s;
-      stopped = not (slice_index s StoppedAt == 0);
-      begun = orNone (take (slice_index s CountAt) (drop HeldAt s));
+      place = number_in place_bytes s;
+      stopped = not (slice_index s stopped_place == 0);
+      begun = or_none (take (slice_index s count_place) (drop held_place s));
     }
 
-unfoldable pub bytesOf : Position → List ℕ
-bytesOf p =
-    bigEndian PlaceBytes p.place
-    ++ cond p.stopped 1 0 ∷ length p.begun ∷ (p.begun ++ replicate (MostHeld - length p.begun) 0)
+unfoldable pub bytes_of : Position → List ℕ
+bytes_of p =
+    big_endian place_bytes p.place
+    ++ cond p.stopped 1 0 ∷ length p.begun ∷ (p.begun ++ replicate (most_held - length p.begun) 0)
 
 -- "24 zeros are a fresh state"
-abbrev pub freshBytes : List ℕ
-freshBytes = replicate StateBytes 0
+abbrev pub fresh_bytes : List ℕ
+fresh_bytes = replicate state_bytes 0

@@ -2,11 +2,11 @@
 ghost use Rattle.std.specs.Prelude.{◌≡◌, ◌≤◌, true, length, if◌then◌else◌};
 ghost use Rattle.std.proofs.Math.Option.{map};
 ghost use Rattle.frame.specs.Bytes.{placed};
-ghost use Rattle.stream.specs.Record.{FrameRecord, isUnknownKind, partial, tells};
-ghost use Rattle.stream.specs.Stream.{placeBehind};
-ghost use Rattle.stream.specs.Reader.{position_of, passed, reach, taken, after, toldWithin};
-ghost use Rattle.stream.specs.Reader.{within, runsTold, outTold, toldOf, advancedOf, endRefusal};
-ghost use Rattle.stream.specs.Contracts.{isOpen, isToTell, StandsAt, standing, Reaches, WholeRecord};
+ghost use Rattle.stream.specs.Record.{frame_record_size, is_unknown_kind, partial, tells};
+ghost use Rattle.stream.specs.Stream.{place_behind};
+ghost use Rattle.stream.specs.Reader.{position_of, passed, reach, taken, after, told_within};
+ghost use Rattle.stream.specs.Reader.{within, runs_told, out_told, told_of, advanced_of, end_refusal};
+ghost use Rattle.stream.specs.Inner.{is_open, is_to_tell, StandsAt, standing, Reaches, WholeRecord};
 
 use crate::record::{
     FIRST_LENGTH, FRAME_KIND, RUNS_AT, SECOND_LENGTH, TICK_KIND, is_unknown_kind, runs_fit,
@@ -34,13 +34,13 @@ pub struct Advanced {
 
 // Whether a frame or refusal stands there: a whole record that is no tick.
 fn is_telling(count: usize, kind: u8) -> bool
-    ensures { result ≡ isToTell count kind }
+    ensures { result ≡ is_to_tell count kind }
 {
     !is_partial(count, kind) && kind != TICK_KIND
 }
 
 fn place_behind(place: u64, count: usize, kind: u8) -> u64
-    ensures { result ≡ (if isOpen count kind then place else placeBehind place count) }
+    ensures { result ≡ (if is_open count kind then place else place_behind place count) }
 {
     if is_partial(count, kind) {
         return place;
@@ -49,7 +49,7 @@ fn place_behind(place: u64, count: usize, kind: u8) -> u64
 }
 
 fn stopped_behind(stopped: bool, count: usize, kind: u8) -> bool
-    ensures { result ≡ (if isOpen count kind then stopped else isUnknownKind kind) }
+    ensures { result ≡ (if is_open count kind then stopped else is_unknown_kind kind) }
 {
     if is_partial(count, kind) {
         return stopped;
@@ -59,7 +59,7 @@ fn stopped_behind(stopped: bool, count: usize, kind: u8) -> bool
 
 // Behind a whole record: the state at the next, stopped if the kind is unknown.
 fn passed(state: StreamState) -> StreamState
-    requires { state.count ≤ FrameRecord }
+    requires { state.count ≤ frame_record_size }
     ensures { StandsAt result (passed (standing state)) }
 {
     let held = state.held;
@@ -87,7 +87,7 @@ fn end_there(telling: bool, here: usize, end: usize) -> usize
 }
 
 fn place_there(telling: bool, place: u64, count: usize, kind: u8) -> u64
-    ensures { result ≡ (if telling then place else (if isOpen count kind then place else placeBehind place count)) }
+    ensures { result ≡ (if telling then place else (if is_open count kind then place else place_behind place count)) }
 {
     if telling {
         return place;
@@ -140,8 +140,8 @@ fn put_runs(runs: &[u8], out: &mut [u8])
 // What a whole record other than a tick tells, with the runs of a frame in `out`.
 fn give(bytes: &[u8], out: &mut [u8]) -> Told
     requires { WholeRecord bytes.now }
-    ensures told { toldOf result ≡ runsTold (map (within (length out.old)) (tells bytes.now)) }
-    ensures left { out.new ≡ outTold (map (within (length out.old)) (tells bytes.now)) out.old }
+    ensures told { told_of result ≡ runs_told (map (within (length out.old)) (tells bytes.now)) }
+    ensures left { out.new ≡ out_told (map (within (length out.old)) (tells bytes.now)) out.old }
 {
     if byte_at(bytes, 0) != FRAME_KIND {
         return Told::Refused(STREAM_KIND_UNKNOWN);
@@ -162,8 +162,8 @@ fn give(bytes: &[u8], out: &mut [u8]) -> Told
 
 // Tells what comes first in the part: the state is not moved.
 pub fn tell(state: StreamState, part: &[u8], out: &mut [u8]) -> Told
-    ensures told { toldOf result ≡ runsTold (toldWithin (position_of state) part.now (length out.old)) }
-    ensures left { out.new ≡ outTold (toldWithin (position_of state) part.now (length out.old)) out.old }
+    ensures told { told_of result ≡ runs_told (told_within (position_of state) part.now (length out.old)) }
+    ensures left { out.new ≡ out_told (told_within (position_of state) part.now (length out.old)) out.old }
 {
     let reached = reach(sound(state), part);
     let there = reached.state;
@@ -177,7 +177,7 @@ pub fn tell(state: StreamState, part: &[u8], out: &mut [u8]) -> Told
 
 // The bytes that the telling call takes, and the state behind them.
 pub fn advance(state: StreamState, part: &[u8]) -> Advanced
-    ensures { advancedOf result ≡ record { position = after (position_of state) part.now; taken = taken (position_of state) part.now } }
+    ensures { advanced_of result ≡ record { position = after (position_of state) part.now; taken = taken (position_of state) part.now } }
 {
     let reached = reach(sound(state), part);
     let there = reached.state;
@@ -189,7 +189,7 @@ pub fn advance(state: StreamState, part: &[u8]) -> Advanced
 
 // The refusal of a stream that ends in this state, or 0.
 pub fn end_refusal(state: StreamState) -> u8
-    ensures { result ≡ endRefusal (position_of state) }
+    ensures { result ≡ end_refusal (position_of state) }
 {
     let begun = sound(state);
     if begun.stopped {

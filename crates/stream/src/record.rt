@@ -1,6 +1,6 @@
 // A record of the adapter's stream.
 ghost use Rattle.std.specs.Prelude.{◌≡◌, length};
-ghost use Rattle.stream.specs.Record.{wholeSize, isUnknownKind, allZero, runsFit, FrameRecord};
+ghost use Rattle.stream.specs.Record.{whole_size, is_unknown_kind, all_zero, runs_fit, frame_record_size};
 
 use frame::bytes::byte_at;
 use frame::frame::MOST_BYTES;
@@ -23,7 +23,7 @@ pub(crate) const RUNS_AT: usize = 3;
 
 // How many bytes a record of a kind has; an unknown kind is one byte.
 pub(crate) fn record_size(kind: u8) -> usize
-    ensures { result ≡ wholeSize kind }
+    ensures { result ≡ whole_size kind }
 {
     if kind == FRAME_KIND {
         return FRAME_RECORD;
@@ -35,13 +35,13 @@ pub(crate) fn record_size(kind: u8) -> usize
 }
 
 pub(crate) fn is_unknown_kind(kind: u8) -> bool
-    ensures { result ≡ isUnknownKind kind }
+    ensures { result ≡ is_unknown_kind kind }
 {
     kind != FRAME_KIND && kind != TICK_KIND
 }
 
 fn all_zero(bytes: &[u8]) -> bool
-    ensures { result ≡ allZero bytes.now }
+    ensures { result ≡ all_zero bytes.now }
 {
     let mut i: usize = 0;
     while i < bytes.len() {
@@ -55,8 +55,8 @@ fn all_zero(bytes: &[u8]) -> bool
 
 // Whether the runs of a whole frame record lie within twelve bytes, and the unused ones are zero.
 pub(crate) fn runs_fit(bytes: &[u8]) -> bool
-    requires { length bytes.now ≡ FrameRecord }
-    ensures { result ≡ runsFit bytes.now }
+    requires { length bytes.now ≡ frame_record_size }
+    ensures { result ≡ runs_fit bytes.now }
 {
     let first = byte_at(bytes, FIRST_LENGTH);
     let second = byte_at(bytes, SECOND_LENGTH);

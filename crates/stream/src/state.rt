@@ -1,8 +1,8 @@
 // The state of the reader between calls: by value, and as the 24 bytes that a caller keeps.
 ghost use Rattle.std.specs.Prelude.{◌≡◌, ◌+◌, ◌*◌, min, [], ◌∷◌, ◌++◌, drop, replicate, if◌then◌else◌};
 ghost use Rattle.stream.specs.Reader.{position_of};
-ghost use Rattle.stream.specs.State.{PlaceBytes, HeldAt, MostHeld, number_in, bigEndian, positionIn, bytesOf};
-ghost use Rattle.stream.specs.Contracts.{isOpen, StandsAt};
+ghost use Rattle.stream.specs.State.{place_bytes, held_place, most_held, number_in, big_endian, position_in, bytes_of};
+ghost use Rattle.stream.specs.Inner.{is_open, StandsAt};
 
 use crate::record::{FRAME_RECORD, record_size};
 
@@ -29,14 +29,14 @@ pub struct StreamState {
 
 // Whether so many bytes of a record of a kind are not yet all of it.
 pub(crate) fn is_partial(count: usize, kind: u8) -> bool
-    ensures { result ≡ isOpen count kind }
+    ensures { result ≡ is_open count kind }
 {
     count < record_size(kind)
 }
 
 // As many, or none where they are a whole record or more.
 pub(crate) fn partial_count(count: usize, kind: u8) -> usize
-    ensures { result ≡ (if isOpen count kind then count else 0) }
+    ensures { result ≡ (if is_open count kind then count else 0) }
 {
     if is_partial(count, kind) { count } else { 0 }
 }
@@ -74,7 +74,7 @@ fn eight(high: u32, low: u32) -> u64
 }
 
 fn place_in(bytes: [u8; STATE_BYTES]) -> u64
-    ensures { result ≡ number_in PlaceBytes bytes }
+    ensures { result ≡ number_in place_bytes bytes }
 {
     let high = four(two(bytes[0], bytes[1]), two(bytes[2], bytes[3]));
     let low = four(two(bytes[4], bytes[5]), two(bytes[6], bytes[7]));
@@ -83,7 +83,7 @@ fn place_in(bytes: [u8; STATE_BYTES]) -> u64
 
 // The bytes held, and room for one more.
 fn held_in(bytes: [u8; STATE_BYTES]) -> [u8; FRAME_RECORD]
-    ensures { result ≡ drop HeldAt bytes ++ 0 ∷ [] }
+    ensures { result ≡ drop held_place bytes ++ 0 ∷ [] }
 {
     let mut held = [0u8; FRAME_RECORD];
     let mut i: usize = 0;
@@ -96,7 +96,7 @@ fn held_in(bytes: [u8; STATE_BYTES]) -> [u8; FRAME_RECORD]
 
 // How many are held: more than there are places for count as so many.
 fn held_count(count: u8) -> usize
-    ensures { result ≡ min count MostHeld }
+    ensures { result ≡ min count most_held }
 {
     if (count as usize) < MOST_HELD {
         count as usize
@@ -107,7 +107,7 @@ fn held_count(count: u8) -> usize
 
 // The state that 24 bytes are, whoever wrote them.
 pub fn state_of(bytes: [u8; STATE_BYTES]) -> StreamState
-    ensures { position_of result ≡ positionIn bytes }
+    ensures { position_of result ≡ position_in bytes }
 {
     StreamState {
         place: place_in(bytes),
@@ -125,7 +125,7 @@ fn flag(stopped: bool) -> u8
 
 // All but the bytes held, in whose place are zeros.
 fn head_of(place: u64, stopped: bool, count: u8) -> [u8; STATE_BYTES]
-    ensures { result ≡ bigEndian PlaceBytes place ++ (if stopped then 1 else 0) ∷ count ∷ replicate MostHeld 0 }
+    ensures { result ≡ big_endian place_bytes place ++ (if stopped then 1 else 0) ∷ count ∷ replicate most_held 0 }
 {
     let mut bytes = [0u8; STATE_BYTES];
     bytes[0] = (place / 0x100_0000_0000_0000 % 256) as u8;
@@ -149,7 +149,7 @@ fn held_or_zero(within: bool, byte: u8) -> u8
 
 // The bytes of a state.
 pub fn bytes_of(state: StreamState) -> [u8; STATE_BYTES]
-    ensures { result ≡ bytesOf (position_of state) }
+    ensures { result ≡ bytes_of (position_of state) }
 {
     let begun = sound(state);
     let count = begun.count;

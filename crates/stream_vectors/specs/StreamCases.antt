@@ -15,8 +15,8 @@ case s events cut = record { stream = s; gives = record { events = events; cut =
 abbrev pub frame_at : ℕ → List ℕ → List ℕ → Event
 frame_at place first second = record { place = place; told = accepted (record { first = first; response = second }) }
 
-abbrev pub refusalAt : ℕ → ℕ → Event
-refusalAt place n = record { place = place; told = refused n }
+abbrev pub refusal_at : ℕ → ℕ → Event
+refusal_at place n = record { place = place; told = refused n }
 
 -- "kind 2 with body 4 is a tick to be skipped"
 abbrev pub tick : List ℕ
@@ -24,33 +24,33 @@ tick = 2 ∷ 0x12 ∷ 0x34 ∷ 0x56 ∷ 0x78 ∷ []
 
 -- "length of the first run, length of the second, twelve bytes, unused ones zero": document 01's frame, which has no response; and twelve
 -- bytes in all.
-abbrev pub sevenBytes : List ℕ
-sevenBytes = 0x48 ∷ 0x6B ∷ 0x10 ∷ 0x41 ∷ 0x65 ∷ 0x80 ∷ 0x29 ∷ []
+abbrev pub seven_bytes : List ℕ
+seven_bytes = 0x48 ∷ 0x6B ∷ 0x10 ∷ 0x41 ∷ 0x65 ∷ 0x80 ∷ 0x29 ∷ []
 
-abbrev pub frameRecord : List ℕ
-frameRecord = 1 ∷ 7 ∷ 0 ∷ (sevenBytes ++ 0 ∷ 0 ∷ 0 ∷ 0 ∷ 0 ∷ [])
+abbrev pub frame_record : List ℕ
+frame_record = 1 ∷ 7 ∷ 0 ∷ (seven_bytes ++ 0 ∷ 0 ∷ 0 ∷ 0 ∷ 0 ∷ [])
 
-abbrev pub twelveBytes : List ℕ
-twelveBytes = 1 ∷ 2 ∷ 3 ∷ 4 ∷ 5 ∷ 6 ∷ 7 ∷ 8 ∷ 9 ∷ 10 ∷ 11 ∷ 12 ∷ []
+abbrev pub twelve_bytes : List ℕ
+twelve_bytes = 1 ∷ 2 ∷ 3 ∷ 4 ∷ 5 ∷ 6 ∷ 7 ∷ 8 ∷ 9 ∷ 10 ∷ 11 ∷ 12 ∷ []
 
-unfoldable pub streamCases : List StreamCase
-streamCases =
+unfoldable pub stream_cases : List StreamCase
+stream_cases =
     -- no bytes; a tick; a frame; one behind a tick
     case [] [] none
     ∷ case tick [] none
-    ∷ case frameRecord (frame_at 0 sevenBytes [] ∷ []) none
-    ∷ case (tick ++ frameRecord) (frame_at 5 sevenBytes [] ∷ []) none
+    ∷ case frame_record (frame_at 0 seven_bytes [] ∷ []) none
+    ∷ case (tick ++ frame_record) (frame_at 5 seven_bytes [] ∷ []) none
     -- "Each whole kind 1 record without fault gives its two runs, unread", twelve bytes or none
-    ∷ case (1 ∷ 9 ∷ 3 ∷ twelveBytes)
+    ∷ case (1 ∷ 9 ∷ 3 ∷ twelve_bytes)
     (frame_at 0 (1 ∷ 2 ∷ 3 ∷ 4 ∷ 5 ∷ 6 ∷ 7 ∷ 8 ∷ 9 ∷ []) (10 ∷ 11 ∷ 12 ∷ []) ∷ []) none
     ∷ case (1 ∷ 0 ∷ 0 ∷ 0 ∷ 0 ∷ 0 ∷ 0 ∷ 0 ∷ 0 ∷ 0 ∷ 0 ∷ 0 ∷ 0 ∷ 0 ∷ 0 ∷ []) (frame_at 0 [] [] ∷ []) none
     -- "60 unknown kind"; "after 60 no more is read or given"
-    ∷ case (0 ∷ frameRecord) (refusalAt 0 60 ∷ []) none
-    ∷ case (frameRecord ++ tick ++ 3 ∷ 1 ∷ []) (frame_at 0 sevenBytes [] ∷ refusalAt 20 60 ∷ []) none
+    ∷ case (0 ∷ frame_record) (refusal_at 0 60 ∷ []) none
+    ∷ case (frame_record ++ tick ++ 3 ∷ 1 ∷ []) (frame_at 0 seven_bytes [] ∷ refusal_at 20 60 ∷ []) none
     -- "61 lengths over 12 together or unused bytes not zero"; "after 61 reading goes on at the next record"
-    ∷ case (1 ∷ 9 ∷ 4 ∷ (twelveBytes ++ frameRecord)) (refusalAt 0 61 ∷ frame_at 15 sevenBytes [] ∷ []) none
-    ∷ case (1 ∷ 9 ∷ 2 ∷ (twelveBytes ++ tick)) (refusalAt 0 61 ∷ []) none
+    ∷ case (1 ∷ 9 ∷ 4 ∷ (twelve_bytes ++ frame_record)) (refusal_at 0 61 ∷ frame_at 15 seven_bytes [] ∷ []) none
+    ∷ case (1 ∷ 9 ∷ 2 ∷ (twelve_bytes ++ tick)) (refusal_at 0 61 ∷ []) none
     -- "62 stream ended inside a record (61 is given only for a whole one)"
-    ∷ case (frameRecord ++ 1 ∷ 9 ∷ 4 ∷ []) (frame_at 0 sevenBytes [] ∷ []) (some 15)
+    ∷ case (frame_record ++ 1 ∷ 9 ∷ 4 ∷ []) (frame_at 0 seven_bytes [] ∷ []) (some 15)
     ∷ case (tick ++ 2 ∷ []) [] (some 5)
     ∷ []

@@ -34,14 +34,14 @@ const FILLING: u8 = 0xA5;
 const WORD_DIGITS: usize = 16;
 
 fn length_at(line: &[u8], at: usize) -> usize {
-    hex::byte_from(line, at) as usize
+    hex_text::byte_from(line, at) as usize
 }
 
 // Fills a run with the bytes whose digits start at a column; a dot counts as a zero.
 fn fill_at(line: &[u8], at: usize, run: &mut [u8])
     requires { at ≤ length line.now }
 {
-    hex::fill(&line[at..], run);
+    hex_text::fill(&line[at..], run);
 }
 
 fn show_word(word: u64) {
@@ -50,8 +50,8 @@ fn show_word(word: u64) {
 
 fn show_bytes(bytes: &[u8]) {
     let mut text = [0u8; TEXT];
-    let n = hex::write_text(bytes, &mut text);
-    io::write_all(STDOUT_FILENO, hex::counted(&text, n));
+    let n = hex_text::write_text(bytes, &mut text);
+    io::write_all(STDOUT_FILENO, hex_text::counted(&text, n));
 }
 
 // Takes the array and no slice: the length of a slice of an array that a call changed would have to be proved.
@@ -65,7 +65,7 @@ fn show_space() {
 
 // The telling call, lent so many bytes of a buffer and no more than it has.
 fn read_into(state: &[u8; STATE], part: &[u8], out: &mut [u8], room: usize) -> u64 {
-    let lent = hex::fewer(room, out.len());
+    let lent = hex_text::fewer(room, out.len());
     c_api::rakhubole_stream_read(state, part, &mut out[..lent])
 }
 
@@ -89,7 +89,7 @@ fn run_step(line: &[u8; LINE]) {
     fill_at(line, STATE_AT, &mut state);
     let mut bytes = [0u8; PART];
     fill_at(line, PART_AT, &mut bytes);
-    let part = hex::counted(&bytes, length_at(line, LENGTH_AT));
+    let part = hex_text::counted(&bytes, length_at(line, LENGTH_AT));
     show_read(&state, part, length_at(line, ROOM_AT));
     show_space();
     show_advance(&state, part);

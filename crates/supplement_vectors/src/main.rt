@@ -20,8 +20,8 @@ const WORD_DIGITS: usize = 16;
 fn length_of(head: &[u8]) -> usize
     ensures { result < 65536 }
 {
-    let high = hex::byte_from(head, 0) as usize;
-    let low = hex::byte_from(head, BYTE_DIGITS) as usize;
+    let high = hex_text::byte_from(head, 0) as usize;
+    let low = hex_text::byte_from(head, BYTE_DIGITS) as usize;
     high * BYTE_VALUES + low
 }
 
@@ -33,7 +33,7 @@ fn zeros() -> [u8; MOST]
 
 // So many characters, as far as there is room.
 fn read_text(text: &mut [u8], size: usize) -> usize {
-    let part = hex::fewer(size, text.len());
+    let part = hex_text::fewer(size, text.len());
     io::read_full(STDIN_FILENO, &mut text[..part])
 }
 
@@ -50,8 +50,8 @@ fn next_case() -> bool {
         return false;
     }
     let mut bytes = zeros();
-    hex::fill(&text, &mut bytes);
-    let answer = c_api::rakhubole_supplement_check(hex::counted(&bytes, n));
+    hex_text::fill(&text, &mut bytes);
+    let answer = c_api::rakhubole_supplement_check(hex_text::counted(&bytes, n));
     io::print_hex(STDOUT_FILENO, answer, WORD_DIGITS);
     io::write_all(STDOUT_FILENO, b"\n");
     true

@@ -2,9 +2,9 @@
 use mathlib.Core.Path.{ap, ◌∙◌}
 use borrow.Author.Rules.{rules}
 use lib.ListN.{length}
-use Rattle.frame.specs.Iso.{readIso}
-use Rattle.c_api.specs.Words.{reportWord}
-use Rattle.c_api.proofs.Small.{small-answer}
+use Rattle.frame.specs.Iso.{read_iso}
+use Rattle.c_api.specs.Words.{report_word}
+use Rattle.c_api.proofs.Small.{small_answer}
 use Rattle.c_api.proofs.rakhubole_iso9141_report.Statement.{statement}
 use Rattle.c_api.proofs.rakhubole_iso9141_report.Tie as tie
 
@@ -12,11 +12,11 @@ report-word-requires : tie.Need-report-word-requires
 report-word-requires c κs =
     let reported = c.before.before in
     let a = reported.before.before.before.before.before.args in
-    small-answer a.supplement.now (readIso a.run.now) (length a.out.now) _ reported.report.ensures.0
+    small_answer a.supplement.now (read_iso a.run.now) (length a.out.now) _ reported.report.ensures.0
 
 returns : tie.Need-returns
 returns c =
-    let reported = c.before.before.before.report.ensures in (c.report-word.ensures ∙ ap reportWord reported.0, reported.1)
+    let reported = c.before.before.before.report.ensures in (c.report_word.ensures ∙ ap report_word reported.0, reported.1)
 
 pub rakhubole-iso9141-report-spec : {M : Type 1} → statement M
 rakhubole-iso9141-report-spec = tie.close (tie.spec (λ c κs. search rules) report-word-requires (λ c. search rules) returns)

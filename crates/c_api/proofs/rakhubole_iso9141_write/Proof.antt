@@ -2,10 +2,10 @@
 use mathlib.Core.Path.{ap, ◌∙◌}
 use borrow.Author.Rules.{rules}
 use lib.ListN.{length}
-use Rattle.frame.specs.Iso.{writeIso}
-use Rattle.frame.proofs.iso.Laws.{written-within}
-use Rattle.c_api.specs.Words.{writeWord}
-use Rattle.c_api.proofs.Small.{small-runs}
+use Rattle.frame.specs.Iso.{write_iso}
+use Rattle.frame.proofs.iso.Laws.{written_within}
+use Rattle.c_api.specs.Words.{write_word}
+use Rattle.c_api.proofs.Small.{small_runs}
 use Rattle.c_api.proofs.rakhubole_iso9141_write.Statement.{statement}
 use Rattle.c_api.proofs.rakhubole_iso9141_write.Tie as tie
 
@@ -14,11 +14,11 @@ write-word-requires c κs =
     let written = c.before.before in
     let a = written.before.before.before.before.before.args in
     let room = length a.out.now in
-    small-runs (writeIso a.header.now a.body.now room) room (written-within a.header.now a.body.now room) _ written.write-iso.ensures.0
+    small_runs (write_iso a.header.now a.body.now room) room (written_within a.header.now a.body.now room) _ written.write_iso.ensures.0
 
 returns : tie.Need-returns
 returns c =
-    let written = c.before.before.before.write-iso.ensures in (c.write_word.ensures ∙ ap writeWord written.0, written.1)
+    let written = c.before.before.before.write_iso.ensures in (c.write_word.ensures ∙ ap write_word written.0, written.1)
 
 pub rakhubole-iso9141-write-spec : {M : Type 1} → statement M
 rakhubole-iso9141-write-spec = tie.close (tie.spec (λ c κs. search rules) write-word-requires (λ c. search rules) returns)

@@ -1,6 +1,6 @@
 use mathlib.Core.Path.{ap, ◌∙◌}
 use borrow.Author.Rules.{rules}
-use Rattle.stream.specs.Reader.{endRefusal}
+use Rattle.stream.specs.Reader.{end_refusal}
 use Rattle.c_api.proofs.rakhubole_stream_end.Statement.{statement}
 use Rattle.c_api.proofs.rakhubole_stream_end.Tie as tie
 
@@ -11,4 +11,4 @@ rakhubole-stream-end-spec =
     (λ c κs. search rules)
     (λ c κs. search rules)
     (λ c. search rules)
-    (λ c. c.end-refusal.ensures ∙ ap endRefusal c.before.state-of.ensures))
+    (λ c. c.end_refusal.ensures ∙ ap end_refusal c.before.state_of.ensures))

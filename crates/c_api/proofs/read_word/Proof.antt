@@ -4,8 +4,8 @@ use native.Mathlib.Omega.{arith}
 use borrow.Author.Rules.{rules}
 use Rattle.frame.specs.Refusal.{accepted}
 use Rattle.frame.specs.Frame.{Sizes, reading_of}
-use Rattle.c_api.specs.Words.{readWord}
-use Rattle.c_api.specs.Contracts.{SmallSizes}
+use Rattle.c_api.specs.Words.{read_word}
+use Rattle.c_api.specs.Inner.{SmallSizes}
 use Rattle.c_api.proofs.read_word.Statement.{statement}
 use Rattle.c_api.proofs.read_word.Tie as tie
 
@@ -41,10 +41,10 @@ add-result-3 : tie.Need-overflow-add-result-3
 add-result-3 c = omega (arith, small c)
 
 returns : tie.Need-returns
-returns c = ap readWord (ap reading_of (sym c.before.reading.given.1))
+returns c = ap read_word (ap reading_of (sym c.before.reading.given.1))
 
 returns-2 : tie.Need-returns-2
-returns-2 c = ap readWord (sym (told c))
+returns-2 c = ap read_word (sym (told c))
 
 pub read-word-spec : {M : Type 1} → statement M
 read-word-spec =

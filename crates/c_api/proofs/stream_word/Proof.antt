@@ -5,9 +5,9 @@ use native.Mathlib.Omega.{arith}
 use borrow.Author.Rules.{rules}
 use Rattle.frame.specs.Refusal.{accepted}
 use Rattle.frame.specs.Frame.{Runs}
-use Rattle.stream.specs.Reader.{toldOf}
-use Rattle.c_api.specs.Words.{streamWord}
-use Rattle.c_api.specs.Contracts.{SmallTold}
+use Rattle.stream.specs.Reader.{told_of}
+use Rattle.c_api.specs.Words.{stream_word}
+use Rattle.c_api.specs.Inner.{SmallTold}
 use Rattle.c_api.proofs.stream_word.Statement.{statement}
 use Rattle.c_api.proofs.stream_word.Tie as tie
 
@@ -16,8 +16,8 @@ module _ (c : tie.After-known-told2) where
   abbrev given : Runs
   given = let g = c.before.told2.given.0 in record { first = g.0; response = g.1.0 }
 
-  told : toldOf c.before.before.before.args.told ≡ some (accepted given)
-  told = ap toldOf c.before.told2.given.1
+  told : told_of c.before.before.before.args.told ≡ some (accepted given)
+  told = ap told_of c.before.told2.given.1
 
   small : SmallTold (some (accepted given))
   small = subst SmallTold told c.before.before.before.requires
@@ -35,7 +35,7 @@ add-result-2 : tie.Need-overflow-add-result-2
 add-result-2 c = omega (arith, small c)
 
 returns-3 : tie.Need-returns-3
-returns-3 c = ap streamWord (sym (told c))
+returns-3 c = ap stream_word (sym (told c))
 
 pub stream-word-spec : {M : Type 1} → statement M
 stream-word-spec =

@@ -3,9 +3,9 @@ use mathlib.Core.Path.{◌≡◌, sym, ap, subst}
 use native.Mathlib.Omega.{arith}
 use borrow.Author.Rules.{rules}
 use Rattle.frame.specs.Refusal.{accepted}
-use Rattle.frame.specs.Frame.{Runs, writingOf}
-use Rattle.c_api.specs.Words.{writeWord}
-use Rattle.c_api.specs.Contracts.{SmallRuns}
+use Rattle.frame.specs.Frame.{Runs, writing_of}
+use Rattle.c_api.specs.Words.{write_word}
+use Rattle.c_api.specs.Inner.{SmallRuns}
 use Rattle.c_api.proofs.write_word.Statement.{statement}
 use Rattle.c_api.proofs.write_word.Tie as tie
 
@@ -14,8 +14,8 @@ module _ (c : tie.After-known-told2) where
   abbrev given : Runs
   given = let g = c.before.writing2.given.0 in record { first = g.0; response = g.1.0 }
 
-  told : writingOf c.before.before.before.args.writing ≡ accepted given
-  told = ap writingOf c.before.writing2.given.1
+  told : writing_of c.before.before.before.args.writing ≡ accepted given
+  told = ap writing_of c.before.writing2.given.1
 
   small : SmallRuns (accepted given)
   small = subst SmallRuns told c.before.before.before.requires
@@ -30,10 +30,10 @@ add-result : tie.Need-overflow-add-result
 add-result c = omega (arith, small c)
 
 returns : tie.Need-returns
-returns c = ap writeWord (ap writingOf (sym c.before.writing.given.1))
+returns c = ap write_word (ap writing_of (sym c.before.writing.given.1))
 
 returns-2 : tie.Need-returns-2
-returns-2 c = ap writeWord (sym (told c))
+returns-2 c = ap write_word (sym (told c))
 
 pub write-word-spec : {M : Type 1} → statement M
 write-word-spec =

@@ -6,32 +6,32 @@ use Prim.Native.Nat.{ℕ, ◌≤◌}
 use native.Mathlib.Omega.{arith}
 use borrow.Author.Tests.{leb-true, ltb-true, lt-leb, ne_eqb}
 use lib.Dec.{eqb, leb, ltb}
-use Rattle.catalogue.specs.Search.{firstWhere, isFound, every}
-use Rattle.catalogue.specs.Kind.{SLOT, PRN, LAYOUT, SELECTOR, Kind, kinds, kindHolds, kindsHold, kindFound, known, orUnknown, recordSize, keySize}
-use Rattle.catalogue.proofs.search.Laws.{both, found-is, every-is}
+use Rattle.catalogue.specs.Search.{first_where, is_found, every}
+use Rattle.catalogue.specs.Kind.{slot_kind, prn_kind, layout_kind, selector_kind, Kind, kinds, kind_holds, kinds_hold, kind_found, known, or_unknown, record_size, key_size}
+use Rattle.catalogue.proofs.search.Laws.{both, found_is, every_is}
 
-kinds-hold : kindsHold ≡ true
-unfolding kindsHold kinds every
-kinds-hold = refl
+kinds_hold_lem : kinds_hold ≡ true
+unfolding kinds_hold kinds every
+kinds_hold_lem = refl
 
 -- The bytes of kind and key, kind by kind.
-pub key-sizes : (keySize SLOT ≡ 5) × (keySize PRN ≡ 3) × (keySize LAYOUT ≡ 6) × (keySize SELECTOR ≡ 3)
-unfolding keySize orUnknown kindFound kinds firstWhere
-key-sizes = (refl, refl, refl, refl)
+pub key_sizes : (key_size slot_kind ≡ 5) × (key_size prn_kind ≡ 3) × (key_size layout_kind ≡ 6) × (key_size selector_kind ≡ 3)
+unfolding key_size or_unknown kind_found kinds first_where
+key_sizes = (refl, refl, refl, refl)
 
-pub layout-size : recordSize LAYOUT ≡ 39
-unfolding recordSize orUnknown kindFound kinds firstWhere
-layout-size = refl
+pub layout_size : record_size layout_kind ≡ 39
+unfolding record_size or_unknown kind_found kinds first_where
+layout_size = refl
 
 -- A kind that was found, or the unknown one: a record has a byte, its key lies within it, and its size tells whether the kind is known.
 record Sized (o : Option Kind) : Type 0 where
-  least : 1 ≤ (orUnknown o).size
-  within : (orUnknown o).key ≤ (orUnknown o).size
-  keyed : isFound o ≡ true → 1 ≤ (orUnknown o).key
-  told : not (isFound o) ≡ leb (orUnknown o).size 1
+  least : 1 ≤ (or_unknown o).size
+  within : (or_unknown o).key ≤ (or_unknown o).size
+  keyed : is_found o ≡ true → 1 ≤ (or_unknown o).key
+  told : not (is_found o) ≡ leb (or_unknown o).size 1
 
-sized : (o : Option Kind) → ((k : Kind) → o ≡ some k → kindHolds k ≡ true) → Sized o
-unfolding orUnknown isFound
+sized : (o : Option Kind) → ((k : Kind) → o ≡ some k → kind_holds k ≡ true) → Sized o
+unfolding or_unknown is_found
 sized none h = record { least = omega arith; within = omega arith; keyed = λ e. absurd (true≢false (sym e)); told = refl }
 sized (some k) h =
     let two = both (ltb 1 k.size && ltb 1 k.key) (leb k.key k.size) (h k refl) in
@@ -46,45 +46,45 @@ sized (some k) h =
     }
 
 module _ (kind : ℕ) where
-  kind-sized : Sized (kindFound kind)
-  unfolding kindFound kindsHold
-  kind-sized =
-      sized (kindFound kind)
-      (λ k e. every-is kindHolds kinds kinds-hold k (found-is (λ (q : Kind). eqb q.number kind) kinds k e).1)
+  kind_sized : Sized (kind_found kind)
+  unfolding kind_found kinds_hold
+  kind_sized =
+      sized (kind_found kind)
+      (λ k e. every_is kind_holds kinds kinds_hold_lem k (found_is (λ (q : Kind). eqb q.number kind) kinds k e).1)
 
-  pub size-positive : 1 ≤ recordSize kind
-  unfolding recordSize
-  size-positive = kind-sized.least
+  pub size_positive : 1 ≤ record_size kind
+  unfolding record_size
+  size_positive = kind_sized.least
 
   -- Kind and key lie within a whole record.
-  pub key-within : keySize kind ≤ recordSize kind
-  unfolding keySize recordSize
-  key-within = kind-sized.within
+  pub key_within : key_size kind ≤ record_size kind
+  unfolding key_size record_size
+  key_within = kind_sized.within
 
-  pub known-key : known kind ≡ true → 1 ≤ keySize kind
-  unfolding known keySize
-  known-key e = kind-sized.keyed e
+  pub known_key : known kind ≡ true → 1 ≤ key_size kind
+  unfolding known key_size
+  known_key e = kind_sized.keyed e
 
   -- A record of one byte is of an unknown kind.
-  pub unknown-told : not (known kind) ≡ leb (recordSize kind) 1
-  unfolding known recordSize
-  unknown-told = kind-sized.told
+  pub unknown_told : not (known kind) ≡ leb (record_size kind) 1
+  unfolding known record_size
+  unknown_told = kind_sized.told
 
   -- The kinds are these.
-  unlisted : (kind ≡ SLOT → ⊥) → (kind ≡ PRN → ⊥) → (kind ≡ LAYOUT → ⊥) → (kind ≡ SELECTOR → ⊥) → kindFound kind ≡ none
-  unfolding kindFound kinds firstWhere
+  unlisted : (kind ≡ slot_kind → ⊥) → (kind ≡ prn_kind → ⊥) → (kind ≡ layout_kind → ⊥) → (kind ≡ selector_kind → ⊥) → kind_found kind ≡ none
+  unfolding kind_found kinds first_where
   unlisted a b c d =
       rw (
-        ne_eqb SLOT kind (λ e. a (sym e)),
-        ne_eqb PRN kind (λ e. b (sym e)),
-        ne_eqb LAYOUT kind (λ e. c (sym e)),
-        ne_eqb SELECTOR kind (λ e. d (sym e)),
+        ne_eqb slot_kind kind (λ e. a (sym e)),
+        ne_eqb prn_kind kind (λ e. b (sym e)),
+        ne_eqb layout_kind kind (λ e. c (sym e)),
+        ne_eqb selector_kind kind (λ e. d (sym e)),
       )
 
-  pub size-unlisted : (kind ≡ SLOT → ⊥) → (kind ≡ PRN → ⊥) → (kind ≡ LAYOUT → ⊥) → (kind ≡ SELECTOR → ⊥) → recordSize kind ≡ 1
-  unfolding recordSize orUnknown
-  size-unlisted a b c d = ap (λ (o : Option Kind). (orUnknown o).size) (unlisted a b c d)
+  pub size_unlisted : (kind ≡ slot_kind → ⊥) → (kind ≡ prn_kind → ⊥) → (kind ≡ layout_kind → ⊥) → (kind ≡ selector_kind → ⊥) → record_size kind ≡ 1
+  unfolding record_size or_unknown
+  size_unlisted a b c d = ap (λ (o : Option Kind). (or_unknown o).size) (unlisted a b c d)
 
-  pub key-unlisted : (kind ≡ SLOT → ⊥) → (kind ≡ PRN → ⊥) → (kind ≡ LAYOUT → ⊥) → (kind ≡ SELECTOR → ⊥) → keySize kind ≡ 0
-  unfolding keySize orUnknown
-  key-unlisted a b c d = ap (λ (o : Option Kind). (orUnknown o).key) (unlisted a b c d)
+  pub key_unlisted : (kind ≡ slot_kind → ⊥) → (kind ≡ prn_kind → ⊥) → (kind ≡ layout_kind → ⊥) → (kind ≡ selector_kind → ⊥) → key_size kind ≡ 0
+  unfolding key_size or_unknown
+  key_unlisted a b c d = ap (λ (o : Option Kind). (or_unknown o).key) (unlisted a b c d)

@@ -13,76 +13,76 @@ use Rattle.frame.specs.Bytes.{Bytes}
 use Rattle.frame.proofs.bytes.Laws.{cases}
 use Rattle.catalogue.specs.declared.rows.PrnRow.{PrnRow}
 use Rattle.catalogue.specs.declared.rows.SlotRow.{SlotRow}
-use Rattle.catalogue.specs.Rows.{prnFits, slotFits, slotSized}
-use Rattle.catalogue.specs.Sae.{saePrn, saeSlot}
-use Rattle.catalogue.specs.Record.{recordKind, recordWith, FullKey, prnRow, slotRow, in_range}
-use Rattle.catalogue.specs.Record.{LayoutRow, MostPrns, PrnsAt, layoutCount, layoutPlaces, layoutRow}
-use Rattle.catalogue.specs.Supplement.{recordsOf, Good}
-use Rattle.catalogue.specs.Lookup.{prnKey, slotKey, selectorKey, layoutKey, orRecord, catalogueOf, catalogue, prnsUsed, layoutFound, layout_of}
-use Rattle.catalogue.proofs.rows.Laws.{sized-slot}
-use Rattle.catalogue.proofs.sae.Laws.{sae-prn-fits, sae-slot-fits}
-use Rattle.catalogue.proofs.kind.Laws.{key-sizes}
-use Rattle.catalogue.proofs.record.Laws.{length-numbers, range-slot, range-prn, slot-row-sized}
-use Rattle.catalogue.proofs.record.Keys.{has-byte, has-kind, found-record}
+use Rattle.catalogue.specs.Rows.{prn_fits, slot_fits, slot_sized}
+use Rattle.catalogue.specs.Sae.{sae_prn, sae_slot}
+use Rattle.catalogue.specs.Record.{record_kind, record_with, FullKey, prn_row, slot_row, in_range}
+use Rattle.catalogue.specs.Record.{LayoutRow, most_prns, prns_at, layout_count, layout_places, layout_row}
+use Rattle.catalogue.specs.Supplement.{records_of, Good}
+use Rattle.catalogue.specs.Lookup.{prn_key, slot_key, selector_key, layout_key, or_record, catalogue_of, catalogue, prns_used, layout_found, layout_of}
+use Rattle.catalogue.proofs.rows.Laws.{sized_slot}
+use Rattle.catalogue.proofs.sae.Laws.{sae_prn_fits, sae_slot_fits}
+use Rattle.catalogue.proofs.kind.Laws.{key_sizes}
+use Rattle.catalogue.proofs.record.Laws.{length_numbers, range_slot, range_prn, slot_row_sized}
+use Rattle.catalogue.proofs.record.Keys.{has_byte, has_kind, found_record}
 
-take-most : (n : ℕ) (l : List ℕ) → length l ≡ MostPrns → take (min n MostPrns) l ≡ take n l
-take-most n l e =
-    cases (leb n MostPrns)
-    (λ t. let h : min n MostPrns ≡ n = omega (arith, leb-true n MostPrns t) in ap (λ (m : ℕ). take m l) h)
+take_most : (n : ℕ) (l : List ℕ) → length l ≡ most_prns → take (min n most_prns) l ≡ take n l
+take_most n l e =
+    cases (leb n most_prns)
+    (λ t. let h : min n most_prns ≡ n = omega (arith, leb-true n most_prns t) in ap (λ (m : ℕ). take m l) h)
     (λ f.
-    let h : min n MostPrns ≡ MostPrns = omega (arith, leb-false n MostPrns f) in
-    ap (λ (m : ℕ). take m l) h ∙ take_all MostPrns l (omega arith) ∙ sym (take_all n l (omega (arith, leb-false n MostPrns f))))
+    let h : min n most_prns ≡ most_prns = omega (arith, leb-false n most_prns f) in
+    ap (λ (m : ℕ). take m l) h ∙ take_all most_prns l (omega arith) ∙ sym (take_all n l (omega (arith, leb-false n most_prns f))))
 
 -- So many PRNs that are used are the first places, and there are sixteen places.
-used-taken : (n : ℕ) (r : List ℕ) → n ≤ MostPrns → take n (prnsUsed n r) ≡ take n (layoutPlaces r)
-unfolding prnsUsed
-used-taken n r h =
-    let first : List ℕ = take n (layoutPlaces r) in
-    let size : length first ≡ n = length-take-le n (layoutPlaces r) (omega (arith, length-numbers MostPrns PrnsAt r)) in
-    take-append-le n first (replicate (MostPrns - n) 0) (omega (arith, size)) ∙ take_all n first (omega (arith, size))
+used_taken : (n : ℕ) (r : List ℕ) → n ≤ most_prns → take n (prns_used n r) ≡ take n (layout_places r)
+unfolding prns_used
+used_taken n r h =
+    let first : List ℕ = take n (layout_places r) in
+    let size : length first ≡ n = length-take-le n (layout_places r) (omega (arith, length_numbers most_prns prns_at r)) in
+    take-append-le n first (replicate (most_prns - n) 0) (omega (arith, size)) ∙ take_all n first (omega (arith, size))
 
-used-length : (n : ℕ) (r : List ℕ) → n ≤ MostPrns → length (prnsUsed n r) ≡ MostPrns
-unfolding prnsUsed
-used-length n r h =
-    let first : List ℕ = take n (layoutPlaces r) in
-    let size : length first ≡ n = length-take-le n (layoutPlaces r) (omega (arith, length-numbers MostPrns PrnsAt r)) in
-    omega (arith, length-append first (replicate (MostPrns - n) 0), size, length-replicate {A = ℕ} (MostPrns - n) 0)
+used_length : (n : ℕ) (r : List ℕ) → n ≤ most_prns → length (prns_used n r) ≡ most_prns
+unfolding prns_used
+used_length n r h =
+    let first : List ℕ = take n (layout_places r) in
+    let size : length first ≡ n = length-take-le n (layout_places r) (omega (arith, length_numbers most_prns prns_at r)) in
+    omega (arith, length-append first (replicate (most_prns - n) 0), size, length-replicate {A = ℕ} (most_prns - n) 0)
 
-layout-value : (o : Option (List ℕ)) → layout_of (layoutFound o) ≡ orRecord none layoutRow o
-unfolding layoutFound orRecord layoutRow
-layout-value none = refl
-layout-value (some r) =
-    let n : ℕ = min (layoutCount r) MostPrns in
-    let prns : take n (prnsUsed n r) ≡ take (layoutCount r) (layoutPlaces r) =
-    used-taken n r (omega arith) ∙ take-most (layoutCount r) (layoutPlaces r) (length-numbers MostPrns PrnsAt r) in
+layout_value : (o : Option (List ℕ)) → layout_of (layout_found o) ≡ or_record none layout_row o
+unfolding layout_found or_record layout_row
+layout_value none = refl
+layout_value (some r) =
+    let n : ℕ = min (layout_count r) most_prns in
+    let prns : take n (prns_used n r) ≡ take (layout_count r) (layout_places r) =
+    used_taken n r (omega arith) ∙ take_most (layout_count r) (layout_places r) (length_numbers most_prns prns_at r) in
     λ i. some (record { prns = prns i })
 
 -- The value of a layout's answer is the catalogue's.
-pub layout-told : (s key : List ℕ) → layout_of (layoutFound (recordWith key (recordsOf s))) ≡ (catalogue s).layout key
-unfolding catalogueOf
-layout-told s key = layout-value (recordWith key (recordsOf s))
+pub layout_told : (s key : List ℕ) → layout_of (layout_found (record_with key (records_of s))) ≡ (catalogue s).layout key
+unfolding catalogue_of
+layout_told s key = layout_value (record_with key (records_of s))
 
 -- At most sixteen PRNs, and none where there is no layout.
-pub layout-sized :
+pub layout_sized :
     (o : Option (List ℕ))
-    → ((layoutFound o).count ≤ MostPrns) × (length (layoutFound o).prns ≡ MostPrns) × ((layoutFound o).found ≡ false → (layoutFound o).count ≡ 0)
-unfolding layoutFound
-layout-sized none = (omega arith, refl, λ e. refl)
-layout-sized (some r) =
-    (omega arith, used-length (min (layoutCount r) MostPrns) r (omega arith), λ e. let z : ◌≡◌ {A = ℕ} 0 1 = cc in omega arith)
+    → ((layout_found o).count ≤ most_prns) × (length (layout_found o).prns ≡ most_prns) × ((layout_found o).found ≡ false → (layout_found o).count ≡ 0)
+unfolding layout_found
+layout_sized none = (omega arith, refl, λ e. refl)
+layout_sized (some r) =
+    (omega arith, used_length (min (layout_count r) most_prns) r (omega arith), λ e. let z : ◌≡◌ {A = ℕ} 0 1 = cc in omega arith)
 
 -- The keys sought are as long as their kinds say.
-pub prn-key-full : (p : ℕ) → FullKey (prnKey p)
-prn-key-full p = record { kind = omega arith; size = sym key-sizes.1 }
+pub prn_key_full : (p : ℕ) → FullKey (prn_key p)
+prn_key_full p = record { kind = omega arith; size = sym key_sizes.1 }
 
-pub slot-key-full : (f w n : ℕ) → FullKey (slotKey f w n)
-slot-key-full f w n = record { kind = omega arith; size = sym key-sizes.0 }
+pub slot_key_full : (f w n : ℕ) → FullKey (slot_key f w n)
+slot_key_full f w n = record { kind = omega arith; size = sym key_sizes.0 }
 
-pub selector-key-full : (b t : ℕ) → FullKey (selectorKey b t)
-selector-key-full b t = record { kind = omega arith; size = sym key-sizes.3 }
+pub selector_key_full : (b t : ℕ) → FullKey (selector_key b t)
+selector_key_full b t = record { kind = omega arith; size = sym key_sizes.3 }
 
-pub layout-key-full : (b t : ℕ) (selector : List ℕ) → FullKey (layoutKey b t selector)
-layout-key-full b t selector = record { kind = omega arith; size = sym key-sizes.2 }
+pub layout_key_full : (b t : ℕ) (selector : List ℕ) → FullKey (layout_key b t selector)
+layout_key_full b t selector = record { kind = omega arith; size = sym key_sizes.2 }
 
 -- What holds of the SAE row and of the record's row holds of what is found.
 either :
@@ -90,63 +90,63 @@ either :
     → ((a : A) → o ≡ some a → P a)
     → ((r : List ℕ) → p ≡ some r → P (f r))
     → (a : A)
-    → orRecord o f p ≡ some a
+    → or_record o f p ≡ some a
     → P a
-unfolding orRecord
+unfolding or_record
 either P f (some b) p u v a h = u a h
 either P f none none u v a h = absurd (let z : ◌≡◌ {A = ℕ} 0 1 = cc in omega arith)
 either P f none (some r) u v a h = let same : f r ≡ a = cc in subst P same (v r refl)
 
 -- A record that a key finds among good records has the key's kind and is in range.
-own-record :
-    (rs : List (List ℕ)) → Good rs → (key r : List ℕ) → 0 < length key → recordWith key rs ≡ some r
-    → (recordKind r ≡ recordKind key) × (in_range r ≡ true)
-own-record rs good key r h f =
-    let is = found-record key rs r f in
-    (has-kind key r h is.0, (good.each r is.1).range)
+own_record :
+    (rs : List (List ℕ)) → Good rs → (key r : List ℕ) → 0 < length key → record_with key rs ≡ some r
+    → (record_kind r ≡ record_kind key) × (in_range r ≡ true)
+own_record rs good key r h f =
+    let is = found_record key rs r f in
+    (has_kind key r h is.0, (good.each r is.1).range)
 
--- What is found of a PRN beside good records is in range: a form from 1 to 9, a width from 1 to 64.
-pub prn-in-range : (rs : List (List ℕ)) → Good rs → (p : ℕ) (row : PrnRow) → (catalogueOf rs).prn p ≡ some row → prnFits row ≡ true
-unfolding catalogueOf
-prn-in-range rs good p =
-    either (λ (row : PrnRow). prnFits row ≡ true) prnRow (saePrn p) (recordWith (prnKey p) rs) (λ row h. (sae-prn-fits p row h).1)
-    (λ r h. let own = own-record rs good (prnKey p) r (omega arith) h in sym (range-prn r own.0) ∙ own.1)
+-- What is found of a prn_kind beside good records is in range: a form from 1 to 9, a width from 1 to 64.
+pub prn_in_range : (rs : List (List ℕ)) → Good rs → (p : ℕ) (row : PrnRow) → (catalogue_of rs).prn p ≡ some row → prn_fits row ≡ true
+unfolding catalogue_of
+prn_in_range rs good p =
+    either (λ (row : PrnRow). prn_fits row ≡ true) prn_row (sae_prn p) (record_with (prn_key p) rs) (λ row h. (sae_prn_fits p row h).1)
+    (λ r h. let own = own_record rs good (prn_key p) r (omega arith) h in sym (range_prn r own.0) ∙ own.1)
 
--- What is found of a SLOT beside good records is in range, a divisor of at least 1 and limits in order, and has the form and width
+-- What is found of a slot_kind beside good records is in range, a divisor of at least 1 and limits in order, and has the form and width
 -- that were sought; beside records of bytes its fields have their sizes.
-pub slot-in-range : (rs : List (List ℕ)) → Good rs → (f w n : ℕ) (row : SlotRow) → (catalogueOf rs).slot f w n ≡ some row → slotFits row ≡ true
-unfolding catalogueOf
-slot-in-range rs good f w n =
-    either (λ (row : SlotRow). slotFits row ≡ true) slotRow (saeSlot f w n) (recordWith (slotKey f w n) rs)
-    (λ row h. (sae-slot-fits f w n row h).fits)
-    (λ r h. let own = own-record rs good (slotKey f w n) r (omega arith) h in sym (range-slot r own.0) ∙ own.1)
+pub slot_in_range : (rs : List (List ℕ)) → Good rs → (f w n : ℕ) (row : SlotRow) → (catalogue_of rs).slot f w n ≡ some row → slot_fits row ≡ true
+unfolding catalogue_of
+slot_in_range rs good f w n =
+    either (λ (row : SlotRow). slot_fits row ≡ true) slot_row (sae_slot f w n) (record_with (slot_key f w n) rs)
+    (λ row h. (sae_slot_fits f w n row h).fits)
+    (λ r h. let own = own_record rs good (slot_key f w n) r (omega arith) h in sym (range_slot r own.0) ∙ own.1)
 
-pub slot-keyed :
-    (rs : List (List ℕ)) → Good rs → (f w n : ℕ) (row : SlotRow) → (catalogueOf rs).slot f w n ≡ some row → (row.form ≡ f) × (row.width ≡ w)
-unfolding catalogueOf slotRow
-slot-keyed rs good f w n =
-    either (λ (row : SlotRow). (row.form ≡ f) × (row.width ≡ w)) slotRow (saeSlot f w n) (recordWith (slotKey f w n) rs)
-    (λ row h. let told = sae-slot-fits f w n row h in (told.form, told.width))
+pub slot_keyed :
+    (rs : List (List ℕ)) → Good rs → (f w n : ℕ) (row : SlotRow) → (catalogue_of rs).slot f w n ≡ some row → (row.form ≡ f) × (row.width ≡ w)
+unfolding catalogue_of slot_row
+slot_keyed rs good f w n =
+    either (λ (row : SlotRow). (row.form ≡ f) × (row.width ≡ w)) slot_row (sae_slot f w n) (record_with (slot_key f w n) rs)
+    (λ row h. let told = sae_slot_fits f w n row h in (told.form, told.width))
     (λ r h.
-    let has = (found-record (slotKey f w n) rs r h).0 in
-    (has-byte (slotKey f w n) r 1 (omega arith) has, has-byte (slotKey f w n) r 2 (omega arith) has))
+    let has = (found_record (slot_key f w n) rs r h).0 in
+    (has_byte (slot_key f w n) r 1 (omega arith) has, has_byte (slot_key f w n) r 2 (omega arith) has))
 
-pub slot-sized :
+pub slot_sized_lem :
     (rs : List (List ℕ))
     → ((r : List ℕ) → Memᴰ r rs → Bytes r)
     → (f w n : ℕ) (row : SlotRow)
-    → (catalogueOf rs).slot f w n ≡ some row
-    → slotSized row ≡ true
-unfolding catalogueOf
-slot-sized rs bytes f w n =
-    either (λ (row : SlotRow). slotSized row ≡ true) slotRow (saeSlot f w n) (recordWith (slotKey f w n) rs)
-    (λ row h. sized-slot row (sae-slot-fits f w n row h).sizes)
-    (λ r h. slot-row-sized r (bytes r (found-record (slotKey f w n) rs r h).1))
+    → (catalogue_of rs).slot f w n ≡ some row
+    → slot_sized row ≡ true
+unfolding catalogue_of
+slot_sized_lem rs bytes f w n =
+    either (λ (row : SlotRow). slot_sized row ≡ true) slot_row (sae_slot f w n) (record_with (slot_key f w n) rs)
+    (λ row h. sized_slot row (sae_slot_fits f w n row h).sizes)
+    (λ r h. slot_row_sized r (bytes r (found_record (slot_key f w n) rs r h).1))
 
 -- A layout has at most sixteen PRNs, whatever the records.
-pub layout-sixteen : (rs : List (List ℕ)) (key : List ℕ) (l : LayoutRow) → (catalogueOf rs).layout key ≡ some l → length l.prns ≤ MostPrns
-unfolding catalogueOf layoutRow
-layout-sixteen rs key =
-    either (λ (l : LayoutRow). length l.prns ≤ MostPrns) layoutRow none (recordWith key rs)
+pub layout_sixteen : (rs : List (List ℕ)) (key : List ℕ) (l : LayoutRow) → (catalogue_of rs).layout key ≡ some l → length l.prns ≤ most_prns
+unfolding catalogue_of layout_row
+layout_sixteen rs key =
+    either (λ (l : LayoutRow). length l.prns ≤ most_prns) layout_row none (record_with key rs)
     (λ l h. absurd (let z : ◌≡◌ {A = ℕ} 0 1 = cc in omega arith))
-    (λ r h. simp length-take (omega (arith, length-numbers MostPrns PrnsAt r)))
+    (λ r h. simp length-take (omega (arith, length_numbers most_prns prns_at r)))

@@ -8,22 +8,22 @@ use lib.Dec.{eqb, ltb}
 use lib.ListN.{length, take, get_or, set, replicate, length-set, length-append, length-replicate, get_or-replicate, get_or-append, get_or-eq_default}
 use lib.Seq.{get_or-set_same, get_or-set_other, get_or-take, get_or-append-add, length-take-le, ext_get_or}
 use Rattle.frame.proofs.bytes.Laws.{cases}
-use Rattle.catalogue.specs.Record.{two, MostPrns, PrnsAt, layoutPlaces}
-use Rattle.catalogue.specs.Lookup.{prnsUsed}
-use Rattle.catalogue.specs.Contracts.{PrnsRead}
-use Rattle.catalogue.proofs.record.Laws.{length-numbers, numbers-at}
+use Rattle.catalogue.specs.Record.{two, most_prns, prns_at, layout_places}
+use Rattle.catalogue.specs.Lookup.{prns_used}
+use Rattle.catalogue.specs.Inner.{PrnsRead}
+use Rattle.catalogue.proofs.record.Laws.{length_numbers, numbers_at}
 
-zero-at : (n j : ℕ) → get_or {A = ℕ} (replicate n 0) j 0 ≡ 0
-zero-at n j =
+zero_at : (n j : ℕ) → get_or {A = ℕ} (replicate n 0) j 0 ≡ 0
+zero_at n j =
     cases (ltb j n) (λ t. get_or-replicate n j 0 0 (ltb-true j n t))
     (λ f. get_or-eq_default (replicate n 0) 0 {n = j} (omega (arith, length-replicate {A = ℕ} n 0, ltb-false j n f)))
 
-pub none_read : (r : List ℕ) → PrnsRead r (replicate MostPrns 0) 0
-none_read r = record { each = λ j h. absurd (omega arith); rest = λ j h. zero-at MostPrns j; room = refl; most = omega arith }
+pub none_read : (r : List ℕ) → PrnsRead r (replicate most_prns 0) 0
+none_read r = record { each = λ j h. absurd (omega arith); rest = λ j h. zero_at most_prns j; room = refl; most = omega arith }
 
 module _ (r : List ℕ) {prns : List ℕ} {n : ℕ} (read : PrnsRead r prns n) where
-  pub one-read : n < MostPrns → {x : ℕ} → x ≡ two r (PrnsAt + n * 2) → PrnsRead r (set prns n x) (n + 1)
-  one-read h {x} e =
+  pub one_read : n < most_prns → {x : ℕ} → x ≡ two r (prns_at + n * 2) → PrnsRead r (set prns n x) (n + 1)
+  one_read h {x} e =
       record {
         each =
             λ j l.
@@ -33,7 +33,7 @@ module _ (r : List ℕ) {prns : List ℕ} {n : ℕ} (read : PrnsRead r prns n) w
             ap (λ (k : ℕ). get_or (set prns n x) k 0) here
             ∙ get_or-set_same prns n x 0 (omega (arith, read.room))
             ∙ e
-            ∙ ap (λ (k : ℕ). two r (PrnsAt + k * 2)) (sym here))
+            ∙ ap (λ (k : ℕ). two r (prns_at + k * 2)) (sym here))
             (λ f. get_or-set_other prns n j x 0 (eqb-false j n f) ∙ read.each j (omega (arith, eqb-false j n f)));
         rest =
             λ j l.
@@ -44,25 +44,25 @@ module _ (r : List ℕ) {prns : List ℕ} {n : ℕ} (read : PrnsRead r prns n) w
       }
 
   -- The first n are the record's, and zeros follow.
-  pub all_read : prns ≡ prnsUsed n r
-  unfolding prnsUsed
+  pub all_read : prns ≡ prns_used n r
+  unfolding prns_used
   all_read =
-      let first : List ℕ = take n (layoutPlaces r) in
-      let zeros : List ℕ = replicate (MostPrns - n) 0 in
-      let places : length (layoutPlaces r) ≡ MostPrns = length-numbers MostPrns PrnsAt r in
-      let size : length first ≡ n = length-take-le n (layoutPlaces r) (omega (arith, places, read.most)) in
+      let first : List ℕ = take n (layout_places r) in
+      let zeros : List ℕ = replicate (most_prns - n) 0 in
+      let places : length (layout_places r) ≡ most_prns = length_numbers most_prns prns_at r in
+      let size : length first ≡ n = length-take-le n (layout_places r) (omega (arith, places, read.most)) in
       ext_get_or 0 prns (first ++ zeros)
-      (omega (arith, read.room, read.most, length-append first zeros, size, length-replicate {A = ℕ} (MostPrns - n) 0))
+      (omega (arith, read.room, read.most, length-append first zeros, size, length-replicate {A = ℕ} (most_prns - n) 0))
       (λ j l.
       cases (ltb j n)
       (λ t.
       let h : j < n = ltb-true j n t in
       read.each j h
       ∙ sym (get_or-append first zeros 0 j (omega (arith, size, h))
-      ∙ get_or-take n (layoutPlaces r) j 0 h
-      ∙ numbers-at MostPrns PrnsAt r j (omega (arith, h, read.most))))
+      ∙ get_or-take n (layout_places r) j 0 h
+      ∙ numbers_at most_prns prns_at r j (omega (arith, h, read.most))))
       (λ f.
       let h : n ≤ j = ltb-false j n f in
       let place : j ≡ length first + (j - n) = omega (arith, size, h) in
       read.rest j h
-      ∙ sym (ap (λ (k : ℕ). get_or (first ++ zeros) k 0) place ∙ get_or-append-add first zeros (j - n) 0 ∙ zero-at (MostPrns - n) (j - n))))
+      ∙ sym (ap (λ (k : ℕ). get_or (first ++ zeros) k 0) place ∙ get_or-append-add first zeros (j - n) 0 ∙ zero_at (most_prns - n) (j - n))))

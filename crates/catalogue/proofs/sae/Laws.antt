@@ -9,63 +9,63 @@ use lib.Dec.{eqb, leb}
 use lib.ListN.{length}
 use Rattle.catalogue.specs.declared.rows.PrnRow.{PrnRow}
 use Rattle.catalogue.specs.declared.rows.SlotRow.{SlotRow}
-use Rattle.catalogue.specs.Rows.{prnFits, slotFits, slotSized}
-use Rattle.catalogue.specs.Tables.{prnRows, slotRows, HighestNumber}
-use Rattle.catalogue.specs.Search.{firstWhere, every}
-use Rattle.catalogue.specs.Sae.{prnIs, slotIs, saePrn, saeSlot, packed, slotRowKey}
-use Rattle.catalogue.specs.Contracts.{keyIs}
+use Rattle.catalogue.specs.Rows.{prn_fits, slot_fits, slot_sized}
+use Rattle.catalogue.specs.Tables.{prn_rows, slot_rows, highest_number}
+use Rattle.catalogue.specs.Search.{first_where, every}
+use Rattle.catalogue.specs.Sae.{prn_is, slot_is, sae_prn, sae_slot, packed, slot_row_key}
+use Rattle.catalogue.specs.Inner.{key_is}
 use Rattle.frame.proofs.bytes.Laws.{cases}
-use Rattle.catalogue.proofs.SaeTables.{table-rule}
-use Rattle.catalogue.proofs.rows.Laws.{slot-ranges, SlotSizes, slot-sizes}
-use Rattle.catalogue.proofs.search.Laws.{both, found-is, none_found, first-same, every-is}
+use Rattle.catalogue.proofs.SaeTables.{table_rule}
+use Rattle.catalogue.proofs.rows.Laws.{slot_ranges, SlotSizes, slot_sizes}
+use Rattle.catalogue.proofs.search.Laws.{both, found_is, none_found, first_same, every_is}
 
 -- A number of two bytes counts the rows.
-pub few-prns : length prnRows < 2 ^ 16
-unfolding prnRows
-few-prns = omega arith
+pub few_prns : length prn_rows < 2 ^ 16
+unfolding prn_rows
+few_prns = omega arith
 
-pub few-slots : length slotRows < 2 ^ 16
-unfolding slotRows
-few-slots = omega arith
+pub few_slots : length slot_rows < 2 ^ 16
+unfolding slot_rows
+few_slots = omega arith
 
--- What is found by a PRN has that PRN and its ranges.
-pub sae-prn-fits : (p : ℕ) (row : PrnRow) → saePrn p ≡ some row → (row.prn ≡ p) × (prnFits row ≡ true)
-unfolding saePrn
-sae-prn-fits p row e =
-    let t = found-is (prnIs p) prnRows row e in
-    (eqb-true row.prn p t.0, every-is prnFits prnRows table-rule.prn-fits row t.1)
+-- What is found by a prn_kind has that prn_kind and its ranges.
+pub sae_prn_fits : (p : ℕ) (row : PrnRow) → sae_prn p ≡ some row → (row.prn ≡ p) × (prn_fits row ≡ true)
+unfolding sae_prn
+sae_prn_fits p row e =
+    let t = found_is (prn_is p) prn_rows row e in
+    (eqb-true row.prn p t.0, every_is prn_fits prn_rows table_rule.prn_fits_lem row t.1)
 
 -- What is found by form, width and number has them, its ranges and its sizes.
 pub record SlotTold (f w n : ℕ) (row : SlotRow) : Type 0 where
   pub form : row.form ≡ f
   pub width : row.width ≡ w
   pub number : row.number ≡ n
-  pub fits : slotFits row ≡ true
+  pub fits : slot_fits row ≡ true
   pub sizes : SlotSizes row
 
-pub sae-slot-fits : (f w n : ℕ) (row : SlotRow) → saeSlot f w n ≡ some row → SlotTold f w n row
-unfolding saeSlot
-sae-slot-fits f w n row e =
-    let t = found-is (slotIs f w n) slotRows row e in
+pub sae_slot_fits : (f w n : ℕ) (row : SlotRow) → sae_slot f w n ≡ some row → SlotTold f w n row
+unfolding sae_slot
+sae_slot_fits f w n row e =
+    let t = found_is (slot_is f w n) slot_rows row e in
     let two = both (eqb row.form f && eqb row.width w) (eqb row.number n) t.0 in
     let one = both (eqb row.form f) (eqb row.width w) two.0 in
     record {
       form = eqb-true row.form f one.0;
       width = eqb-true row.width w one.1;
       number = eqb-true row.number n two.1;
-      fits = every-is slotFits slotRows table-rule.slot-fits row t.1;
-      sizes = slot-sizes row (every-is slotSized slotRows table-rule.slot-sized row t.1);
+      fits = every_is slot_fits slot_rows table_rule.slot_fits_lem row t.1;
+      sizes = slot_sizes row (every_is slot_sized slot_rows table_rule.slot_sized_lem row t.1);
     }
 
 -- Packed keys are equal exactly when form, width and number are.
-packed-is :
+packed_is :
     (a b c f w n : ℕ)
     → b < 256
     → c < 65536
     → w < 256
     → n < 65536
     → eqb (packed a b c) (packed f w n) ≡ (eqb a f && eqb b w && eqb c n)
-packed-is a b c f w n hb hc hw hn =
+packed_is a b c f w n hb hc hw hn =
     cases (eqb a f && eqb b w && eqb c n)
     (λ t.
     let two = both (eqb a f && eqb b w) (eqb c n) t in
@@ -85,30 +85,30 @@ packed-is a b c f w n hb hc hw hn =
     eqb_same : {x y : ℕ} → x ≡ y → eqb x y ≡ true
     eqb_same {x} {y} e = eq-eqb x y e
 
--- A SLOT is sought by its packed key.
-pub slot-packed : (f w n : ℕ) → w < 256 → n < 65536 → firstWhere (λ r. keyIs (packed f w n) (slotRowKey r)) slotRows ≡ saeSlot f w n
-unfolding saeSlot
-slot-packed f w n hw hn =
-    first-same (λ r. keyIs (packed f w n) (slotRowKey r)) (slotIs f w n) slotRows
+-- A slot_kind is sought by its packed key.
+pub slot_packed : (f w n : ℕ) → w < 256 → n < 65536 → first_where (λ r. key_is (packed f w n) (slot_row_key r)) slot_rows ≡ sae_slot f w n
+unfolding sae_slot
+slot_packed f w n hw hn =
+    first_same (λ r. key_is (packed f w n) (slot_row_key r)) (slot_is f w n) slot_rows
     (λ r m.
-    let s = slot-sizes r (every-is slotSized slotRows table-rule.slot-sized r m) in
-    let t = slot-ranges r (every-is slotFits slotRows table-rule.slot-fits r m) in
-    packed-is r.form r.width r.number f w n (omega (arith, t.key.width-most)) (omega (arith, s.number)) hw hn)
+    let s = slot_sizes r (every_is slot_sized slot_rows table_rule.slot_sized_lem r m) in
+    let t = slot_ranges r (every_is slot_fits slot_rows table_rule.slot_fits_lem r m) in
+    packed_is r.form r.width r.number f w n (omega (arith, t.key.width_most)) (omega (arith, s.number)) hw hn)
 
--- No SAE SLOT is numbered higher.
-numbered-so : every (λ r. leb r.number HighestNumber) slotRows ≡ true
-unfolding slotRows every
-numbered-so = refl
+-- No SAE slot_kind is numbered higher.
+numbered_so : every (λ r. leb r.number highest_number) slot_rows ≡ true
+unfolding slot_rows every
+numbered_so = refl
 
-pub slot-beyond : (f w n : ℕ) → HighestNumber < n → none ≡ saeSlot f w n
-unfolding saeSlot
-slot-beyond f w n h =
+pub slot_beyond : (f w n : ℕ) → highest_number < n → none ≡ sae_slot f w n
+unfolding sae_slot
+slot_beyond f w n h =
     sym
-    (none_found (slotIs f w n) slotRows
+    (none_found (slot_is f w n) slot_rows
     (λ r m.
-    let most = leb-true r.number HighestNumber (every-is (λ q. leb q.number HighestNumber) slotRows numbered-so r m) in
-    rw (ne_eqb r.number n (λ e. omega arith)) (and-false (eqb r.form f && eqb r.width w))))
+    let most = leb-true r.number highest_number (every_is (λ q. leb q.number highest_number) slot_rows numbered_so r m) in
+    rw (ne_eqb r.number n (λ e. omega arith)) (and_false (eqb r.form f && eqb r.width w))))
   where
-    and-false : (b : Bool) → (b && false) ≡ false
-    and-false true = refl
-    and-false false = refl
+    and_false : (b : Bool) → (b && false) ≡ false
+    and_false true = refl
+    and_false false = refl

@@ -36,12 +36,12 @@ bytes_take s n b i =
     (λ e. let g : n ≤ i = ltb-false _ _ e in rw (get_or-eq_default (take n s) 0 {n = i} (simp length-take (omega arith))) (omega arith))
 
 -- The bytes of a run in two parts, and of one around a place.
-pub bytes-front : (u v : List ℕ) → Bytes (u ++ v) → Bytes u
-bytes-front u v b = subst Bytes (take_at u v (length u) refl) (bytes_take (u ++ v) (length u) b)
+pub bytes_front : (u v : List ℕ) → Bytes (u ++ v) → Bytes u
+bytes_front u v b = subst Bytes (take_at u v (length u) refl) (bytes_take (u ++ v) (length u) b)
 
 pub byte_at : (u : List ℕ) (x : ℕ) (v : List ℕ) → Bytes (u ++ x ∷ v) → x < 256
 byte_at u x v b = subst (λ (n : ℕ). n < 256) (get_or_at u x v 0 (length u) refl) (b (length u))
 
-pub bytes-behind : (u : List ℕ) (x : ℕ) (v : List ℕ) → Bytes (u ++ x ∷ v) → Bytes v
-bytes-behind [] x v b i = b (suc i)
-bytes-behind (w ∷ u) x v b i = bytes-behind u x v (λ (j : ℕ). b (suc j)) i
+pub bytes_behind : (u : List ℕ) (x : ℕ) (v : List ℕ) → Bytes (u ++ x ∷ v) → Bytes v
+bytes_behind [] x v b i = b (suc i)
+bytes_behind (w ∷ u) x v b i = bytes_behind u x v (λ (j : ℕ). b (suc j)) i

@@ -14,9 +14,9 @@ unfolding placed
 pasted out at u = ap (λ (v : List ℕ). take at out ++ v ++ drop (at + length u) out) (take-length u)
 
 -- Nothing placed leaves all as it was.
-pub placed-none : (out : List ℕ) (at : ℕ) → out ≡ placed out at []
+pub placed_none : (out : List ℕ) (at : ℕ) → out ≡ placed out at []
 unfolding placed
-placed-none out at = paste-zero out at []
+placed_none out at = paste-zero out at []
 
 -- One store is a run of one byte placed.
 pub stored : (out : List ℕ) (at b : ℕ) → at < length out → set out at b ≡ placed out at (b ∷ [])
@@ -24,12 +24,12 @@ unfolding placed
 stored out at b h = set_split out at b h ∙ rw (add-one, append_snoc)
 
 -- One byte more, stored right before a run that was placed.
-pub stored-before :
+pub stored_before :
     (out : List ℕ) (at b : ℕ) (u : List ℕ)
     → suc at + length u ≤ length out
     → set (placed out (suc at) u) at b ≡ placed out at (b ∷ u)
 unfolding placed
-stored-before out at b u fits =
+stored_before out at b u fits =
     let rest : List ℕ = drop (suc at + length u) out in
     let whole : List ℕ = take (suc at) out ++ u ++ rest in
     let size : length (take (suc at) out) ≡ suc at = length-take-le (suc at) out (omega arith) in
@@ -44,9 +44,9 @@ stored-before out at b u fits =
     ∙ ap (λ (n : ℕ). take at out ++ (b ∷ u) ++ drop n out) same
 
 module _ (out : List ℕ) (at : ℕ) (u : List ℕ) (fits : at + length u ≤ length out) where
-  pub length-placed : length (placed out at u) ≡ length out
+  pub length_placed : length (placed out at u) ≡ length out
   unfolding placed
-  length-placed = ap length (sym (pasted out at u)) ∙ length-paste out at u (length u) fits (omega arith)
+  length_placed = ap length (sym (pasted out at u)) ∙ length-paste out at u (length u) fits (omega arith)
 
   -- what was placed is found again
   pub part_placed : take (length u) (drop at (placed out at u)) ≡ u
@@ -57,19 +57,19 @@ module _ (out : List ℕ) (at : ℕ) (u : List ℕ) (fits : at + length u ≤ le
       ∙ drop_at (take at out) (u ++ drop (at + length u) out) at (length-take-le at out (omega arith)))
       ∙ take_at u (drop (at + length u) out) (length u) refl
 
-  head-length : length (take at out ++ u) ≡ at + length u
-  head-length = length-append (take at out) u ∙ ap (λ (n : ℕ). n + length u) (length-take-le at out (omega arith))
+  head_length : length (take at out ++ u) ≡ at + length u
+  head_length = length-append (take at out) u ∙ ap (λ (n : ℕ). n + length u) (length-take-le at out (omega arith))
 
   -- a run placed right behind another is the two placed together
-  pub placed-behind : (v : List ℕ) → placed (placed out at u) (at + length u) v ≡ placed out at (u ++ v)
+  pub placed_behind : (v : List ℕ) → placed (placed out at u) (at + length u) v ≡ placed out at (u ++ v)
   unfolding placed
-  placed-behind v =
+  placed_behind v =
       let n : ℕ = at + length u in
       let rest : List ℕ = drop n out in
-      let front : take n (take at out ++ u ++ rest) ≡ take at out ++ u = take_at (take at out ++ u) rest n head-length in
+      let front : take n (take at out ++ u ++ rest) ≡ take at out ++ u = take_at (take at out ++ u) rest n head_length in
       let back : drop (n + length v) (take at out ++ u ++ rest) ≡ drop (n + length v) out =
       sym (drop-drop (length v) n (take at out ++ u ++ rest))
-      ∙ ap (drop (length v)) (drop_at (take at out ++ u) rest n head-length)
+      ∙ ap (drop (length v)) (drop_at (take at out ++ u) rest n head_length)
       ∙ drop-drop (length v) n out in
       let size : n + length v ≡ at + length (u ++ v) = omega (arith, length-append u v) in
       (λ i. front i ++ v ++ back i) ∙ (λ i. append_assoc (take at out) u v i ++ drop (size i) out)
@@ -82,4 +82,4 @@ pub joined :
     → n ≡ at + length u
     → at + length u ≤ length out
     → o' ≡ placed out at (u ++ v)
-joined out at u v e e' p fits = e' ∙ (λ i. placed (e i) (p i) v) ∙ placed-behind out at u fits v
+joined out at u v e e' p fits = e' ∙ (λ i. placed (e i) (p i) v) ∙ placed_behind out at u fits v

@@ -5,66 +5,66 @@ use Prim.Native.Nat.{ℕ, ◌+◌, ◌-◌, ◌≤◌}
 use native.Mathlib.Omega.{arith}
 use lib.ListN.{length, take, drop, get_or}
 use lib.Seq.{length-take-le, get_or-take}
-use Rattle.frame.specs.CheckByte.{checkByte, sealed}
-use Rattle.frame.specs.Response.{isUnassigned, sent, responseSize}
-use Rattle.frame.specs.Count.{wrongCount}
-use Rattle.frame.specs.Header.{headerSize, kindAsked}
-use Rattle.frame.specs.Refusal.{NoRefusal}
+use Rattle.frame.specs.CheckByte.{check_byte, sealed}
+use Rattle.frame.specs.Response.{is_unassigned, sent, response_size}
+use Rattle.frame.specs.Count.{wrong_count}
+use Rattle.frame.specs.Header.{header_size, kind_asked}
+use Rattle.frame.specs.Refusal.{no_refusal}
 use Rattle.frame.specs.Reader.{parts_of, FrameObeys}
-use Rattle.frame.specs.Frame.{frameSize, parts_at}
-use Rattle.frame.specs.Writer.{frame_of, writeRefusal}
-use Rattle.frame.proofs.response.Laws.{response-kept, response-again, response-size-le}
-use Rattle.frame.proofs.header.Laws.{header-range, same_size, same_kind}
-use Rattle.frame.proofs.writer.Laws.{Writes, write-unrefused}
-use Rattle.frame.proofs.frame.Laws.{run-again}
+use Rattle.frame.specs.Frame.{frame_size, parts_at}
+use Rattle.frame.specs.Writer.{frame_of, write_refusal}
+use Rattle.frame.proofs.response.Laws.{response_kept, response_again, response_size_le}
+use Rattle.frame.proofs.header.Laws.{header_range, same_size, same_kind}
+use Rattle.frame.proofs.writer.Laws.{Writes, write_unrefused}
+use Rattle.frame.proofs.frame.Laws.{run_again}
 
 module _ (first response : List ℕ) (o : FrameObeys first response) where
   header : List ℕ
-  header = take (headerSize first) first
+  header = take (header_size first) first
 
   body : List ℕ
-  body = take (length first - (headerSize first + 1)) (drop (headerSize first) first)
+  body = take (length first - (header_size first + 1)) (drop (header_size first) first)
 
   unchecked : List ℕ
-  unchecked = take (responseSize (kindAsked first) (length response)) response
+  unchecked = take (response_size (kind_asked first) (length response)) response
 
-  header-byte : get_or header 0 0 ≡ get_or first 0 0
+  header_byte : get_or header 0 0 ≡ get_or first 0 0
   unfolding header
-  header-byte = get_or-take (headerSize first) first 0 0 (omega (arith, header-range first))
+  header_byte = get_or-take (header_size first) first 0 0 (omega (arith, header_range first))
 
-  header-length : length header ≡ headerSize header
+  header_length : length header ≡ header_size header
   unfolding header
-  header-length = length-take-le (headerSize first) first (omega (arith, o.long)) ∙ sym (same_size header first header-byte)
+  header_length = length-take-le (header_size first) first (omega (arith, o.long)) ∙ sym (same_size header first header_byte)
 
-  header-kind : kindAsked header ≡ kindAsked first
-  header-kind = same_kind header first header-byte
+  header_kind : kind_asked header ≡ kind_asked first
+  header_kind = same_kind header first header_byte
 
-  first-again : sealed (header ++ body) ≡ first
+  first_again : sealed (header ++ body) ≡ first
   unfolding header body
-  first-again = run-again checkByte first (headerSize first) o.long o.check
+  first_again = run_again check_byte first (header_size first) o.long o.check
 
-  sent-again : sent (kindAsked header) unchecked ≡ response
+  sent_again : sent (kind_asked header) unchecked ≡ response
   unfolding unchecked
-  sent-again = ap (λ k. sent k unchecked) header-kind ∙ response-again (kindAsked first) response o.by_kind
+  sent_again = ap (λ k. sent k unchecked) header_kind ∙ response_again (kind_asked first) response o.by_kind
 
-  frame-again : frame_of header body unchecked ≡ record { first = first; response = response }
+  frame_again : frame_of header body unchecked ≡ record { first = first; response = response }
   unfolding frame_of
-  frame-again = λ i. record { first = first-again i; response = sent-again i }
+  frame_again = λ i. record { first = first_again i; response = sent_again i }
 
-  counted : wrongCount (kindAsked header) (length unchecked) ≡ wrongCount (kindAsked first) (responseSize (kindAsked first) (length response))
+  counted : wrong_count (kind_asked header) (length unchecked) ≡ wrong_count (kind_asked first) (response_size (kind_asked first) (length response))
   unfolding unchecked
   counted =
-      let n = responseSize (kindAsked first) (length response) in
-      let size = length-take-le n response (response-size-le (kindAsked first) (length response)) in
-      λ i. wrongCount (header-kind i) (size i)
+      let n = response_size (kind_asked first) (length response) in
+      let size = length-take-le n response (response_size_le (kind_asked first) (length response)) in
+      λ i. wrong_count (header_kind i) (size i)
 
   writes_again : (room : ℕ) → length first + length response ≤ room → Writes header body unchecked room
   writes_again room fits =
-      let k = response-kept (kindAsked first) response o.by_kind in
-      let total : frameSize (frame_of header body unchecked) ≡ length first + length response = ap frameSize frame-again in
+      let k = response_kept (kind_asked first) response o.by_kind in
+      let total : frame_size (frame_of header body unchecked) ≡ length first + length response = ap frame_size frame_again in
       record {
-        size = header-length;
-        assigned = ap isUnassigned header-kind ∙ k.assigned;
+        size = header_length;
+        assigned = ap is_unassigned header_kind ∙ k.assigned;
         count = counted ∙ k.count;
         most = omega (arith, total, o.most);
         fits = omega (arith, total);
@@ -75,7 +75,7 @@ module _ (first response : List ℕ) (o : FrameObeys first response) where
       (room : ℕ)
       → length first + length response ≤ room
       → (let p = parts_of first response in
-      (writeRefusal p.header p.body p.response room ≡ NoRefusal)
+      (write_refusal p.header p.body p.response room ≡ no_refusal)
       × (frame_of p.header p.body p.response ≡ record { first = first; response = response }))
   unfolding parts_of parts_at header body unchecked
-  again room fits = (write-unrefused header body unchecked room (writes_again room fits), frame-again)
+  again room fits = (write_unrefused header body unchecked room (writes_again room fits), frame_again)

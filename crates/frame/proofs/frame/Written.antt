@@ -8,54 +8,54 @@ use Prim.Native.Nat.{ℕ, ◌+◌, ◌<◌}
 use lib.Dec.{ltb}
 use lib.ListN.{length, take, get_or}
 use Rattle.frame.specs.declared.response.ResponseKind.TheVariants.{Data}
-use Rattle.frame.specs.CheckByte.{checkByte, isSealed}
-use Rattle.frame.specs.Response.{isChecked, sent, responseSize}
-use Rattle.frame.specs.Count.{countRules, DataSent, DataGiven}
-use Rattle.frame.specs.Header.{headerSize, kindAsked}
+use Rattle.frame.specs.CheckByte.{check_byte, is_sealed}
+use Rattle.frame.specs.Response.{is_checked, sent, response_size}
+use Rattle.frame.specs.Count.{count_rules, data_sent, data_given}
+use Rattle.frame.specs.Header.{header_size, kind_asked}
 use Rattle.frame.specs.Reader.{parts_of}
 use Rattle.frame.specs.Writer.{frame_of}
-use Rattle.frame.proofs.response.Laws.{length-sent, sent-found, sent-sealed}
-use Rattle.frame.proofs.count.Laws.{counted-alike}
-use Rattle.frame.proofs.header.Laws.{header-range, same_size, same_kind}
-use Rattle.frame.proofs.frame.Laws.{run, run_length, run-byte, parts-found}
+use Rattle.frame.proofs.response.Laws.{length_sent, sent_found, sent_sealed}
+use Rattle.frame.proofs.count.Laws.{counted_alike}
+use Rattle.frame.proofs.header.Laws.{header_range, same_size, same_kind}
+use Rattle.frame.proofs.frame.Laws.{run, run_length, run_byte, parts_found}
 
 -- Header, data and response without check bytes; the header is as long as H says.
-module _ (h d a : List ℕ) (size : length h ≡ headerSize h) where
+module _ (h d a : List ℕ) (size : length h ≡ header_size h) where
   abbrev first : List ℕ
-  first = run checkByte h d
+  first = run check_byte h d
 
   first_byte : get_or first 0 0 ≡ get_or h 0 0
-  first_byte = run-byte checkByte h d (omega (arith, size, header-range h))
+  first_byte = run_byte check_byte h d (omega (arith, size, header_range h))
 
-  run-size : headerSize first ≡ length h
-  run-size = same_size first h first_byte ∙ sym size
+  run_size : header_size first ≡ length h
+  run_size = same_size first h first_byte ∙ sym size
 
-  pub run-kind : kindAsked first ≡ kindAsked h
-  run-kind = same_kind first h first_byte
+  pub run_kind : kind_asked first ≡ kind_asked h
+  run_kind = same_kind first h first_byte
 
-  run-response :
-      take (responseSize (kindAsked first) (length (sent (kindAsked h) a))) (sent (kindAsked h) a) ≡ a
-  run-response =
-      let behind : List ℕ = sent (kindAsked h) a in
-      ap (λ k. take (responseSize k (length behind)) behind) run-kind ∙ sent-found (kindAsked h) a
+  run_response :
+      take (response_size (kind_asked first) (length (sent (kind_asked h) a))) (sent (kind_asked h) a) ≡ a
+  run_response =
+      let behind : List ℕ = sent (kind_asked h) a in
+      ap (λ k. take (response_size k (length behind)) behind) run_kind ∙ sent_found (kind_asked h) a
 
   -- They are the parts that the reader finds.
-  pub frame-parts :
+  pub frame_parts :
       parts_of (frame_of h d a).first (frame_of h d a).response
-      ≡ record { header = h; body = d; kind = kindAsked h; response = a }
+      ≡ record { header = h; body = d; kind = kind_asked h; response = a }
   unfolding parts_of frame_of
-  frame-parts = parts-found checkByte h d (headerSize first) run-size run-kind run-response
+  frame_parts = parts_found check_byte h d (header_size first) run_size run_kind run_response
 
   -- Rules 2 and 6 over the frame.
-  pub run_long : ltb (length first) (headerSize first + 1) ≡ false
-  run_long = le-ltb (length first) (headerSize first + 1) (omega (arith, run_length checkByte h d, run-size))
+  pub run_long : ltb (length first) (header_size first + 1) ≡ false
+  run_long = le-ltb (length first) (header_size first + 1) (omega (arith, run_length check_byte h d, run_size))
 
-  pub run-checked : (isChecked (kindAsked first) && not (isSealed (sent (kindAsked h) a))) ≡ false
-  run-checked = ap (λ k. isChecked k && not (isSealed (sent (kindAsked h) a))) run-kind ∙ sent-sealed (kindAsked h) a
+  pub run_checked : (is_checked (kind_asked first) && not (is_sealed (sent (kind_asked h) a))) ≡ false
+  run_checked = ap (λ k. is_checked k && not (is_sealed (sent (kind_asked h) a))) run_kind ∙ sent_sealed (kind_asked h) a
 
   -- The reader counts the response as it is sent, the writer as it is given.
-  pub run-counted :
-      (kindAsked h ≡ Data → 0 < length a)
-      → countRules (kindAsked h) DataSent (length (sent (kindAsked h) a)) ≡ countRules (kindAsked h) DataGiven (length a)
-  run-counted some =
-      ap (countRules (kindAsked h) DataSent) (length-sent (kindAsked h) a) ∙ counted-alike (kindAsked h) (length a) some
+  pub run_counted :
+      (kind_asked h ≡ Data → 0 < length a)
+      → count_rules (kind_asked h) data_sent (length (sent (kind_asked h) a)) ≡ count_rules (kind_asked h) data_given (length a)
+  run_counted some =
+      ap (count_rules (kind_asked h) data_sent) (length_sent (kind_asked h) a) ∙ counted_alike (kind_asked h) (length a) some

@@ -7,89 +7,89 @@ use native.Mathlib.Omega.{arith}
 use borrow.Author.Tests.{lt-ltb, le-ltb, ltb-false, eq-eqb, eqb-true, not-false}
 use lib.Dec.{ltb, lit<}
 use lib.ListN.{length, length-append}
-use Rattle.frame.specs.CheckByte.{checkByte}
-use Rattle.frame.specs.Response.{isChecked, isUnassigned, sent}
-use Rattle.frame.specs.Count.{wrongCount, DataGiven}
-use Rattle.frame.specs.Header.{headerSize, kindAsked}
-use Rattle.frame.specs.Frame.{Frame, frameSize, MostBytes}
-use Rattle.frame.specs.Refusal.{refused, accepted, NoRefusal}
-use Rattle.frame.specs.Writer.{frame_of, writeRulesWith, writeRules, writeRefusal, writeFrame}
+use Rattle.frame.specs.CheckByte.{check_byte}
+use Rattle.frame.specs.Response.{is_checked, is_unassigned, sent}
+use Rattle.frame.specs.Count.{wrong_count, data_given}
+use Rattle.frame.specs.Header.{header_size, kind_asked}
+use Rattle.frame.specs.Frame.{Frame, frame_size, most_bytes}
+use Rattle.frame.specs.Refusal.{refused, accepted, no_refusal}
+use Rattle.frame.specs.Writer.{frame_of, write_rules_with, write_rules, write_refusal, write_frame}
 use Rattle.frame.proofs.bytes.Laws.{cases}
-use Rattle.frame.proofs.seal.Laws.{length-sealed}
-use Rattle.frame.proofs.response.Laws.{length-sent}
-use Rattle.frame.proofs.count.Laws.{count_past, none-counted, given-right}
-use Rattle.frame.proofs.refusal.Laws.{kept, last-kept, none-broken, unrefused-is, refused-is, accepted-has}
+use Rattle.frame.proofs.seal.Laws.{length_sealed}
+use Rattle.frame.proofs.response.Laws.{length_sent}
+use Rattle.frame.proofs.count.Laws.{count_past, none_counted, given_right}
+use Rattle.frame.proofs.refusal.Laws.{kept, last_kept, none_broken, unrefused_is, refused_is, accepted_has}
 
 -- The writer's rules, said without an order.
 pub record Writes (header body response : List ℕ) (room : ℕ) : Type 0 where
-  pub size : length header ≡ headerSize header
-  pub assigned : isUnassigned (kindAsked header) ≡ false
-  pub count : wrongCount (kindAsked header) (length response) ≡ false
-  pub most : frameSize (frame_of header body response) ≤ MostBytes
-  pub fits : frameSize (frame_of header body response) ≤ room
+  pub size : length header ≡ header_size header
+  pub assigned : is_unassigned (kind_asked header) ≡ false
+  pub count : wrong_count (kind_asked header) (length response) ≡ false
+  pub most : frame_size (frame_of header body response) ≤ most_bytes
+  pub fits : frame_size (frame_of header body response) ≤ room
 
 -- Header, data and response, each without check byte.
 module _ (h d a : List ℕ) where
   -- The size of a frame: its parts, the check byte, and one byte more for a kind 3 response.
-  pub frame-size : frameSize (frame_of h d a) ≡ length h + length d + 1 + length (sent (kindAsked h) a)
+  pub frame_size_lem : frame_size (frame_of h d a) ≡ length h + length d + 1 + length (sent (kind_asked h) a)
   unfolding frame_of
-  frame-size = omega (arith, length-sealed checkByte (h ++ d), length-append h d)
+  frame_size_lem = omega (arith, length_sealed check_byte (h ++ d), length-append h d)
 
-  pub size-checked : isChecked (kindAsked h) ≡ true → frameSize (frame_of h d a) ≡ length h + length d + 1 + length a + 1
-  size-checked e = omega (arith, frame-size, rw e at (length-sent (kindAsked h) a))
+  pub size_checked : is_checked (kind_asked h) ≡ true → frame_size (frame_of h d a) ≡ length h + length d + 1 + length a + 1
+  size_checked e = omega (arith, frame_size_lem, rw e at (length_sent (kind_asked h) a))
 
-  pub size-plain : isChecked (kindAsked h) ≡ false → frameSize (frame_of h d a) ≡ length h + length d + 1 + length a
-  size-plain e = omega (arith, frame-size, rw e at (length-sent (kindAsked h) a))
+  pub size_plain : is_checked (kind_asked h) ≡ false → frame_size (frame_of h d a) ≡ length h + length d + 1 + length a
+  size_plain e = omega (arith, frame_size_lem, rw e at (length_sent (kind_asked h) a))
 
-  pub frame-total : frameSize (frame_of h d a) ≡ length h + length d + length a + cond (isChecked (kindAsked h)) 2 1
-  frame-total =
-      cases (isChecked (kindAsked h)) (λ e. rw e (omega (arith, size-checked e))) (λ e. rw e (omega (arith, size-plain e)))
+  pub frame_total : frame_size (frame_of h d a) ≡ length h + length d + length a + cond (is_checked (kind_asked h)) 2 1
+  frame_total =
+      cases (is_checked (kind_asked h)) (λ e. rw e (omega (arith, size_checked e))) (λ e. rw e (omega (arith, size_plain e)))
 
-  frame-longer : length d + length a ≤ frameSize (frame_of h d a)
-  frame-longer = cases (isChecked (kindAsked h)) (λ e. omega (arith, size-checked e)) (λ e. omega (arith, size-plain e))
+  frame_longer : length d + length a ≤ frame_size (frame_of h d a)
+  frame_longer = cases (is_checked (kind_asked h)) (λ e. omega (arith, size_checked e)) (λ e. omega (arith, size_plain e))
 
-  pub over-most : MostBytes < length d + length a → ltb MostBytes (frameSize (frame_of h d a)) ≡ true
-  over-most l = lt-ltb MostBytes (frameSize (frame_of h d a)) (omega (arith, frame-longer))
+  pub over_most : most_bytes < length d + length a → ltb most_bytes (frame_size (frame_of h d a)) ≡ true
+  over_most l = lt-ltb most_bytes (frame_size (frame_of h d a)) (omega (arith, frame_longer))
 
   module _ (room : ℕ) where
     -- No refusal: every rule is kept.
-    pub writes : writeRefusal h d a room ≡ NoRefusal → Writes h d a room
-    unfolding writeRefusal writeRules writeRulesWith
+    pub writes : write_refusal h d a room ≡ no_refusal → Writes h d a room
+    unfolding write_refusal write_rules write_rules_with
     writes e =
-        let seven = none-broken _ _ e (lit< tt) in
-        let four = none-broken _ _ seven.1 (lit< tt) in
-        let counted = none-counted (kindAsked h) DataGiven (length a) _ four.1 in
-        let one = none-broken _ _ counted.1 (lit< tt) in
-        let eight = none-broken _ _ one.1 (lit< tt) in
+        let seven = none_broken _ _ e (lit< tt) in
+        let four = none_broken _ _ seven.1 (lit< tt) in
+        let counted = none_counted (kind_asked h) data_given (length a) _ four.1 in
+        let one = none_broken _ _ counted.1 (lit< tt) in
+        let eight = none_broken _ _ one.1 (lit< tt) in
         record {
-          size = eqb-true (length h) (headerSize h) (not-false _ seven.0);
+          size = eqb-true (length h) (header_size h) (not-false _ seven.0);
           assigned = four.0;
-          count = (given-right (kindAsked h) (length a)).0 counted.0;
-          most = ltb-false MostBytes (frameSize (frame_of h d a)) one.0;
-          fits = ltb-false room (frameSize (frame_of h d a)) eight.0;
+          count = (given_right (kind_asked h) (length a)).0 counted.0;
+          most = ltb-false most_bytes (frame_size (frame_of h d a)) one.0;
+          fits = ltb-false room (frame_size (frame_of h d a)) eight.0;
         }
 
     -- Every rule is kept: no refusal.
-    pub write-unrefused : Writes h d a room → writeRefusal h d a room ≡ NoRefusal
-    unfolding writeRefusal writeRules writeRulesWith
-    write-unrefused w =
-        kept _ _ (ap not (eq-eqb (length h) (headerSize h) w.size))
+    pub write_unrefused : Writes h d a room → write_refusal h d a room ≡ no_refusal
+    unfolding write_refusal write_rules write_rules_with
+    write_unrefused w =
+        kept _ _ (ap not (eq-eqb (length h) (header_size h) w.size))
         ∙ kept _ _ w.assigned
-        ∙ count_past (kindAsked h) DataGiven (length a) _ ((given-right (kindAsked h) (length a)).1 w.count)
-        ∙ kept _ _ (le-ltb MostBytes (frameSize (frame_of h d a)) w.most)
-        ∙ last-kept _ (le-ltb room (frameSize (frame_of h d a)) w.fits)
+        ∙ count_past (kind_asked h) data_given (length a) _ ((given_right (kind_asked h) (length a)).1 w.count)
+        ∙ kept _ _ (le-ltb most_bytes (frame_size (frame_of h d a)) w.most)
+        ∙ last_kept _ (le-ltb room (frame_size (frame_of h d a)) w.fits)
 
-    pub write-accepts : writeRefusal h d a room ≡ NoRefusal → writeFrame h d a room ≡ accepted (frame_of h d a)
-    unfolding writeFrame
-    write-accepts e = unrefused-is (writeRefusal h d a room) (frame_of h d a) e
+    pub write_accepts : write_refusal h d a room ≡ no_refusal → write_frame h d a room ≡ accepted (frame_of h d a)
+    unfolding write_frame
+    write_accepts e = unrefused_is (write_refusal h d a room) (frame_of h d a) e
 
-    pub write-refuses : (writeRefusal h d a room ≡ NoRefusal → ⊥) → writeFrame h d a room ≡ refused (writeRefusal h d a room)
-    unfolding writeFrame
-    write-refuses e = refused-is (writeRefusal h d a room) (frame_of h d a) e
+    pub write_refuses : (write_refusal h d a room ≡ no_refusal → ⊥) → write_frame h d a room ≡ refused (write_refusal h d a room)
+    unfolding write_frame
+    write_refuses e = refused_is (write_refusal h d a room) (frame_of h d a) e
 
     -- What is written lies within twelve bytes and within the lent room.
-    pub written-within : (f : Frame) → writeFrame h d a room ≡ accepted f → (frameSize f ≤ MostBytes) × (frameSize f ≤ room)
-    unfolding writeFrame
-    written-within f e =
-        accepted-has (λ g. (frameSize g ≤ MostBytes) × (frameSize g ≤ room)) (writeRefusal h d a room) (frame_of h d a) f e
+    pub written_within : (f : Frame) → write_frame h d a room ≡ accepted f → (frame_size f ≤ most_bytes) × (frame_size f ≤ room)
+    unfolding write_frame
+    written_within f e =
+        accepted_has (λ g. (frame_size g ≤ most_bytes) × (frame_size g ≤ room)) (write_refusal h d a room) (frame_of h d a) f e
         (λ z. ((writes z).most, (writes z).fits))

@@ -7,16 +7,16 @@ use mathlib.Core.List.{List, [], ◌∷◌, ◌++◌, Memᴰ}
 use Rattle.frame.proofs.bytes.Laws.{cases}
 use Rattle.report.specs.declared.line.Line.{Line}
 use Rattle.report.specs.declared.tally.Tally.{Tally}
-use Rattle.report.specs.Verdict.{VerdictClear, VerdictFlagged, VerdictUnknown, any, verdictBy, verdictOf}
-use Rattle.report.specs.Contracts.{tally_of}
+use Rattle.report.specs.Verdict.{verdict_clear, verdict_flagged, verdict_unknown, any, verdict_by, verdict_of}
+use Rattle.report.specs.Inner.{tally_of}
 
 -- A test that holds for a line of the list, and the line that it holds for.
-pub any-is : (p : Line → Bool) (ls : List Line) → any p ls ≡ true → (l : Line) × Memᴰ l ls × (p l ≡ true)
+pub any_is : (p : Line → Bool) (ls : List Line) → any p ls ≡ true → (l : Line) × Memᴰ l ls × (p l ≡ true)
 unfolding any
-any-is p [] e = absurd (true≢false (sym e))
-any-is p (l ∷ ls) e =
+any_is p [] e = absurd (true≢false (sym e))
+any_is p (l ∷ ls) e =
     cases (p l) (λ t. (l, Memᴰ.head refl, t))
-    (λ f. let r = any-is p ls (sym (rw f) ∙ e) in (r.0, Memᴰ.tail r.1, r.2))
+    (λ f. let r = any_is p ls (sym (rw f) ∙ e) in (r.0, Memᴰ.tail r.1, r.2))
 
 pub any_of : (p : Line → Bool) (ls : List Line) (l : Line) → Memᴰ l ls → p l ≡ true → any p ls ≡ true
 unfolding any
@@ -32,17 +32,17 @@ any_snoc p [] l = cases (p l) (λ t. rw t) (λ f. rw f)
 any_snoc p (k ∷ ls) l = cases (p k) (λ t. rw t) (λ f. rw f (any_snoc p ls l))
 
 -- The verdict of lines from their tally.
-pub verdict-told : (ls : List Line) {t : Tally} → t ≡ tally_of ls → verdictBy t.flagged t.unknown ≡ verdictOf ls
-unfolding verdictOf tally_of
-verdict-told ls e = λ i. verdictBy (e i).flagged (e i).unknown
+pub verdict_told : (ls : List Line) {t : Tally} → t ≡ tally_of ls → verdict_by t.flagged t.unknown ≡ verdict_of ls
+unfolding verdict_of tally_of
+verdict_told ls e = λ i. verdict_by (e i).flagged (e i).unknown
 
 -- The verdict by its two tests.
 module _ (flagged unknown : Bool) where
-  pub by-flagged : flagged ≡ true → verdictBy flagged unknown ≡ VerdictFlagged
-  by-flagged e = rw e
+  pub by_flagged : flagged ≡ true → verdict_by flagged unknown ≡ verdict_flagged
+  by_flagged e = rw e
 
-  pub by-unknown : flagged ≡ false → unknown ≡ true → verdictBy flagged unknown ≡ VerdictUnknown
-  by-unknown e f = rw (e, f)
+  pub by_unknown : flagged ≡ false → unknown ≡ true → verdict_by flagged unknown ≡ verdict_unknown
+  by_unknown e f = rw (e, f)
 
-  pub by-neither : flagged ≡ false → unknown ≡ false → verdictBy flagged unknown ≡ VerdictClear
-  by-neither e f = rw (e, f)
+  pub by_neither : flagged ≡ false → unknown ≡ false → verdict_by flagged unknown ≡ verdict_clear
+  by_neither e f = rw (e, f)

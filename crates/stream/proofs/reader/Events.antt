@@ -5,30 +5,30 @@ use mathlib.Core.Option.{map}
 use Rattle.frame.specs.Frame.{Frame}
 use Rattle.frame.specs.Refusal.{Outcome}
 use Rattle.frame.proofs.bytes.Laws.{cases}
-use Rattle.stream.specs.Record.{kind_of, wholeSize, partial, tells}
-use Rattle.stream.specs.Stream.{Event, placeBehind, eventOf}
-use Rattle.stream.specs.Reader.{Position, withByte, passed, eventAt, reach, told, after}
-use Rattle.stream.specs.Cuts.{sizeTold}
-use Rattle.stream.proofs.record.Laws.{grown, size-frame, size-unknown, told-by}
-use Rattle.stream.proofs.reader.Laws.{reach-keeps, passed-partial}
+use Rattle.stream.specs.Record.{kind_of, whole_size, partial, tells}
+use Rattle.stream.specs.Stream.{Event, place_behind, event_of}
+use Rattle.stream.specs.Reader.{Position, with_byte, passed, event_at, reach, told, after}
+use Rattle.stream.specs.Cuts.{size_told}
+use Rattle.stream.proofs.record.Laws.{grown, size_frame, size_unknown, told_by}
+use Rattle.stream.proofs.reader.Laws.{reach_keeps, passed_partial}
 
 -- A test is not both, and nothing is not something.
-not-both : {b : Bool} → b ≡ true → b ≡ false → ⊥
-not-both t f = let both : true ≡ false = sym t ∙ f in let z : ◌≡◌ {A = ℕ} 0 1 = cc in omega arith
+not_both : {b : Bool} → b ≡ true → b ≡ false → ⊥
+not_both t f = let both : true ≡ false = sym t ∙ f in let z : ◌≡◌ {A = ℕ} 0 1 = cc in omega arith
 
-pub nothing-told : {e : Event} → none ≡ some e → ⊥
-nothing-told h = let z : ◌≡◌ {A = ℕ} 0 1 = cc in omega arith
+pub nothing_told : {e : Event} → none ≡ some e → ⊥
+nothing_told h = let z : ◌≡◌ {A = ℕ} 0 1 = cc in omega arith
 
 pub record TellsThere (p : Position) (e : Event) : Type 0 where
   pub whole : partial p.begun ≡ false
   pub place : p.place ≡ e.place
-  pub record-tells : tells p.begun ≡ some e.told
+  pub record_tells : tells p.begun ≡ some e.told
 
-pub event-is : (p : Position) (e : Event) → eventAt p ≡ some e → TellsThere p e
-unfolding eventAt
-event-is p e h =
-    cases (partial p.begun) (λ t. absurd (nothing-told (sym (rw t refl) ∙ h)))
-    (λ t. let event : eventOf p.place p.begun ≡ some e = sym (rw t refl) ∙ h in go (tells p.begun) refl t event)
+pub event_is : (p : Position) (e : Event) → event_at p ≡ some e → TellsThere p e
+unfolding event_at
+event_is p e h =
+    cases (partial p.begun) (λ t. absurd (nothing_told (sym (rw t refl) ∙ h)))
+    (λ t. let event : event_of p.place p.begun ≡ some e = sym (rw t refl) ∙ h in go (tells p.begun) refl t event)
   where
     go :
         (o : Option (Outcome Frame))
@@ -36,39 +36,39 @@ event-is p e h =
         → partial p.begun ≡ false
         → map (λ (x : Outcome Frame). record { place = p.place; told = x }) o ≡ some e
         → TellsThere p e
-    go none u t h = absurd (nothing-told h)
+    go none u t h = absurd (nothing_told h)
     go (some x) u t h =
         let same : record { place = p.place; told = x } ≡ e = cc in
-        record { whole = t; place = ap (λ (y : Event). y.place) same; record-tells = u ∙ ap (λ (y : Event). some y.told) same }
+        record { whole = t; place = ap (λ (y : Event). y.place) same; record_tells = u ∙ ap (λ (y : Event). some y.told) same }
 
 -- Where a call stops to tell, one record is held and nothing behind it.
-one-record :
+one_record :
     (p : Position) (part : List ℕ)
     → partial p.begun ≡ true
     → partial (reach p part).position.begun ≡ false
-    → let r = (reach p part).position.begun in length r ≡ wholeSize (kind_of r)
-one-record =
-    reach-keeps
+    → let r = (reach p part).position.begun in length r ≡ whole_size (kind_of r)
+one_record =
+    reach_keeps
     (λ p part r.
-    partial p.begun ≡ true → partial r.position.begun ≡ false → length r.position.begun ≡ wholeSize (kind_of r.position.begun))
-    (λ p part o w. absurd (not-both o w)) (λ p b part e t o w. grown p.begun b o w)
-    (λ p b part r e t kept o. kept (passed-partial (withByte p b)))
+    partial p.begun ≡ true → partial r.position.begun ≡ false → length r.position.begun ≡ whole_size (kind_of r.position.begun))
+    (λ p part o w. absurd (not_both o w)) (λ p b part e t o w. grown p.begun b o w)
+    (λ p b part r e t kept o. kept (passed_partial (with_byte p b)))
 
 -- Its length, by what it tells.
-size-told : (r : List ℕ) (o : Outcome Frame) → tells r ≡ some o → wholeSize (kind_of r) ≡ sizeTold o
-size-told r o e =
+size_told_lem : (r : List ℕ) (o : Outcome Frame) → tells r ≡ some o → whole_size (kind_of r) ≡ size_told o
+size_told_lem r o e =
     let k = kind_of r in
-    told-by r o e (λ f w h. size-frame k f ∙ ap sizeTold h) (λ f h. size-frame k f ∙ ap sizeTold h) (λ f t h. size-unknown k f t ∙ ap sizeTold h)
+    told_by r o e (λ f w h. size_frame k f ∙ ap size_told h) (λ f h. size_frame k f ∙ ap size_told h) (λ f t h. size_unknown k f t ∙ ap size_told h)
 
 -- The state that a call leaves stands right behind the record that it told of.
-pub place-behind-told :
+pub place_behind_told :
     (p : Position) (part : List ℕ) (e : Event)
     → partial p.begun ≡ true
     → told p part ≡ some e
-    → (after p part).place ≡ placeBehind e.place (sizeTold e.told)
+    → (after p part).place ≡ place_behind e.place (size_told e.told)
 unfolding passed
-place-behind-told p part e o h =
+place_behind_told p part e o h =
     let q = (reach p part).position in
-    let there = event-is q e h in
-    let size = one-record p part o there.whole ∙ size-told q.begun e.told there.record-tells in
-    rw there.whole (λ i. placeBehind (there.place i) (size i))
+    let there = event_is q e h in
+    let size = one_record p part o there.whole ∙ size_told_lem q.begun e.told there.record_tells in
+    rw there.whole (λ i. place_behind (there.place i) (size i))

@@ -3,87 +3,87 @@ use Rattle.std.proofs.Common.{◌≡◌, ℕ, ◌+◌, ◌<◌, ◌≤◌, Bool,
 use mathlib.Core.Option.{Option, none, some}
 use mathlib.Core.Option.{map}
 use Rattle.frame.specs.Bytes.{placed}
-use Rattle.frame.specs.Frame.{Frame, frameSize, Runs}
-use Rattle.frame.specs.Refusal.{Outcome, refused, accepted, OutputShort}
-use Rattle.stream.specs.Refusal.{StreamKindUnknown, StreamRecordWrong}
-use Rattle.stream.specs.Record.{FrameKind, FrameRecord, kind_of, firstLength, secondLength, RunsAt, runsIn, runsFit, tells}
+use Rattle.frame.specs.Frame.{Frame, frame_size, Runs}
+use Rattle.frame.specs.Refusal.{Outcome, refused, accepted, output_short}
+use Rattle.stream.specs.Refusal.{stream_kind_unknown, stream_record_wrong}
+use Rattle.stream.specs.Record.{frame_kind, frame_record_size, kind_of, first_length, second_length, runs_at, runs_in, runs_fit, tells}
 use Rattle.stream.specs.declared.state.StreamState.{StreamState}
 use Rattle.stream.specs.Stream.{Event}
-use Rattle.stream.specs.Reader.{Position, isTelling, eventAt, reach, within, toldWithin, runsTold, outTold}
-use Rattle.stream.specs.Contracts.{standing, StandsAt, WholeRecord}
-use Rattle.stream.proofs.record.Laws.{size-frame, whole-size, fit-within, tells-unknown, tells-frame, first-size, second-size, runs-joined}
-use Rattle.stream.proofs.reader.Laws.{telling, not-told, is-told}
+use Rattle.stream.specs.Reader.{Position, is_telling, event_at, reach, within, told_within, runs_told, out_told}
+use Rattle.stream.specs.Inner.{standing, StandsAt, WholeRecord}
+use Rattle.stream.proofs.record.Laws.{size_frame, whole_size_lem, fit_within, tells_unknown, tells_frame, first_size, second_size, runs_joined}
+use Rattle.stream.proofs.reader.Laws.{telling, not_told, is_told}
 
 -- What is told, and the output left, follow from the answer; of a frame, the lengths and runs may be given by others.
-pub told-so : {e o : Option (Outcome Frame)} (out : List ℕ) → e ≡ o → (runsTold o ≡ runsTold e) × (outTold o out ≡ outTold e out)
-told-so out h = (ap runsTold (sym h), ap (λ (x : Option (Outcome Frame)). outTold x out) (sym h))
+pub told_so : {e o : Option (Outcome Frame)} (out : List ℕ) → e ≡ o → (runs_told o ≡ runs_told e) × (out_told o out ≡ out_told e out)
+told_so out h = (ap runs_told (sym h), ap (λ (x : Option (Outcome Frame)). out_told x out) (sym h))
 
-pub given-told :
+pub given_told :
     {e : Option (Outcome Frame)} {f : Frame} {first second : ℕ} {out' : List ℕ} (out : List ℕ)
     → e ≡ some (accepted f)
     → first ≡ length f.first
     → second ≡ length f.response
     → out' ≡ placed out 0 (f.first ++ f.response)
-    → (◌≡◌ {A = Option (Outcome Runs)} (some (accepted (record { first = first; response = second }))) (runsTold e)) × (out' ≡ outTold e out)
-given-told out h a b o =
-    let so = told-so out h in ((λ i. some (accepted (record { first = a i; response = b i }))) ∙ so.0, o ∙ so.1)
+    → (◌≡◌ {A = Option (Outcome Runs)} (some (accepted (record { first = first; response = second }))) (runs_told e)) × (out' ≡ out_told e out)
+given_told out h a b o =
+    let so = told_so out h in ((λ i. some (accepted (record { first = a i; response = b i }))) ∙ so.0, o ∙ so.1)
 
 module _ (r : List ℕ) (room : ℕ) (w : WholeRecord r) where
-  pub gives-unknown : (kind_of r ≡ FrameKind → ⊥) → map (within room) (tells r) ≡ some (refused StreamKindUnknown)
-  gives-unknown f = ap (map (within room)) (tells-unknown r w.no-tick f)
+  pub gives_unknown : (kind_of r ≡ frame_kind → ⊥) → map (within room) (tells r) ≡ some (refused stream_kind_unknown)
+  gives_unknown f = ap (map (within room)) (tells_unknown r w.no_tick f)
 
-  module _ (f : kind_of r ≡ FrameKind) where
-    pub whole-frame : length r ≡ FrameRecord
-    whole-frame = omega (arith, w.whole, w.most, size-frame (kind_of r) f)
+  module _ (f : kind_of r ≡ frame_kind) where
+    pub whole_frame_lem : length r ≡ frame_record_size
+    whole_frame_lem = omega (arith, w.whole, w.most, size_frame (kind_of r) f)
 
-    tells-by : (t : Bool) → runsFit r ≡ t → tells r ≡ some (cond t (accepted (runsIn r)) (refused StreamRecordWrong))
-    tells-by t e = tells-frame r f ∙ ap (λ (b : Bool). some (cond b (accepted (runsIn r)) (refused StreamRecordWrong))) e
+    tells_by : (t : Bool) → runs_fit r ≡ t → tells r ≡ some (cond t (accepted (runs_in r)) (refused stream_record_wrong))
+    tells_by t e = tells_frame r f ∙ ap (λ (b : Bool). some (cond b (accepted (runs_in r)) (refused stream_record_wrong))) e
 
-    pub gives-wrong : runsFit r ≡ false → map (within room) (tells r) ≡ some (refused StreamRecordWrong)
-    gives-wrong e = ap (map (within room)) (tells-by false e)
+    pub gives_wrong : runs_fit r ≡ false → map (within room) (tells r) ≡ some (refused stream_record_wrong)
+    gives_wrong e = ap (map (within room)) (tells_by false e)
 
-    module _ (e : runsFit r ≡ true) where
-      both-sizes : frameSize (runsIn r) ≡ firstLength r + secondLength r
-      both-sizes = let fit = fit-within r e in (λ i. first-size r whole-frame fit i + second-size r whole-frame fit i)
+    module _ (e : runs_fit r ≡ true) where
+      both_sizes : frame_size (runs_in r) ≡ first_length r + second_length r
+      both_sizes = let fit = fit_within r e in (λ i. first_size r whole_frame_lem fit i + second_size r whole_frame_lem fit i)
 
-      gives-by :
+      gives_by :
           (t : Bool)
-          → ltb room (frameSize (runsIn r)) ≡ t
-          → map (within room) (tells r) ≡ some (cond t (refused OutputShort) (accepted (runsIn r)))
-      gives-by t h =
-          ap (map (within room)) (tells-by true e) ∙ ap (λ (b : Bool). some (cond b (refused OutputShort) (accepted (runsIn r)))) h
+          → ltb room (frame_size (runs_in r)) ≡ t
+          → map (within room) (tells r) ≡ some (cond t (refused output_short) (accepted (runs_in r)))
+      gives_by t h =
+          ap (map (within room)) (tells_by true e) ∙ ap (λ (b : Bool). some (cond b (refused output_short) (accepted (runs_in r)))) h
 
-      pub gives-short : room < firstLength r + secondLength r → map (within room) (tells r) ≡ some (refused OutputShort)
-      gives-short l = gives-by true (lt-ltb room (frameSize (runsIn r)) (omega (arith, l, both-sizes)))
+      pub gives_short : room < first_length r + second_length r → map (within room) (tells r) ≡ some (refused output_short)
+      gives_short l = gives_by true (lt-ltb room (frame_size (runs_in r)) (omega (arith, l, both_sizes)))
 
-      pub gives-frame : firstLength r + secondLength r ≤ room → map (within room) (tells r) ≡ some (accepted (runsIn r))
-      gives-frame l = gives-by false (le-ltb room (frameSize (runsIn r)) (omega (arith, l, both-sizes)))
+      pub gives_frame : first_length r + second_length r ≤ room → map (within room) (tells r) ≡ some (accepted (runs_in r))
+      gives_frame l = gives_by false (le-ltb room (frame_size (runs_in r)) (omega (arith, l, both_sizes)))
 
-      pub runs-placed :
+      pub runs_placed :
           (out : List ℕ)
-          → placed out 0 (take (firstLength r + secondLength r) (drop RunsAt r)) ≡ placed out 0 ((runsIn r).first ++ (runsIn r).response)
-      runs-placed out = ap (placed out 0) (sym (runs-joined r whole-frame (fit-within r e)))
+          → placed out 0 (take (first_length r + second_length r) (drop runs_at r)) ≡ placed out 0 ((runs_in r).first ++ (runs_in r).response)
+      runs_placed out = ap (placed out 0) (sym (runs_joined r whole_frame_lem (fit_within r e)))
 
 -- What a call answers, from the state that it reaches.
 module _ (p : Position) (part : List ℕ) (room : ℕ) {s : StreamState} (w : StandsAt s (reach p part).position) where
-  pub answers-nothing : isTelling (standing s) ≡ false → toldWithin p part room ≡ none
-  answers-nothing t =
-      ap (map (λ (e : Event). within room e.told)) (not-told (reach p part).position (ap isTelling (sym w.position) ∙ t))
+  pub answers_nothing : is_telling (standing s) ≡ false → told_within p part room ≡ none
+  answers_nothing t =
+      ap (map (λ (e : Event). within room e.told)) (not_told (reach p part).position (ap is_telling (sym w.position) ∙ t))
 
-  module _ (t : isTelling (standing s) ≡ true) where
-    pub whole-reached : WholeRecord (standing s).begun
-    whole-reached =
+  module _ (t : is_telling (standing s) ≡ true) where
+    pub whole_reached : WholeRecord (standing s).begun
+    whole_reached =
         let told = telling (standing s) t in
         record {
-          whole = whole-size (standing s).begun told.0;
+          whole = whole_size_lem (standing s).begun told.0;
           most = omega (arith, length-take-le s.count s.held (omega (arith, w.room, w.within)), w.within);
-          no-tick = told.1;
+          no_tick = told.1;
         }
 
-    pub answers-record : toldWithin p part room ≡ map (within room) (tells (standing s).begun)
-    answers-record =
-        ap (λ (q : Position). map (λ (e : Event). within room e.told) (eventAt q)) (sym w.position)
-        ∙ ap (map (λ (e : Event). within room e.told)) (is-told (standing s) t)
+    pub answers_record : told_within p part room ≡ map (within room) (tells (standing s).begun)
+    answers_record =
+        ap (λ (q : Position). map (λ (e : Event). within room e.told) (event_at q)) (sym w.position)
+        ∙ ap (map (λ (e : Event). within room e.told)) (is_told (standing s) t)
         ∙ unplaced (tells (standing s).begun)
       where
         unplaced :

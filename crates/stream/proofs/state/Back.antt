@@ -2,17 +2,17 @@
 use Rattle.std.proofs.Common.{◌≡◌, ℕ, zero, suc, ◌+◌, ◌-◌, ◌*◌, ◌/◌, ◌%◌, ◌^◌, Bool, true, false, cond, not, eqb, List, [], ◌∷◌, ◌++◌, length, get_or, take, replicate, sym, refl, ap, ◌∙◌, mod-eq_of_lt, mul_assoc, mul_comm, add-mul, pow-suc, arith, take_at}
 use native.Mathlib.Nat.{one-le-pow, mod-one}
 use lib.Arith.{mod-mul}
-use Rattle.stream.specs.Reader.{Position, fresh, orNone}
-use Rattle.stream.specs.State.{PlaceBytes, MostHeld, number_in, bigEndian, positionIn, bytesOf, freshBytes}
-use Rattle.stream.specs.Calls.{byValue, byBytes}
+use Rattle.stream.specs.Reader.{Position, fresh, or_none}
+use Rattle.stream.specs.State.{place_bytes, most_held, number_in, big_endian, position_in, bytes_of, fresh_bytes}
+use Rattle.stream.specs.Calls.{by_value, by_bytes}
 use Rattle.stream.specs.Cuts.{BetweenCalls, Keeping}
 
 -- The first byte counts most.
-number-first : (n b : ℕ) (s : List ℕ) → number_in (suc n) (b ∷ s) ≡ b * 256 ^ n + number_in n s
+number_first : (n b : ℕ) (s : List ℕ) → number_in (suc n) (b ∷ s) ≡ b * 256 ^ n + number_in n s
 unfolding number_in
-number-first zero b s = omega arith
-number-first (suc n) b s =
-    ap (λ (x : ℕ). x * 256 + get_or s n 0) (number-first n b s)
+number_first zero b s = omega arith
+number_first (suc n) b s =
+    ap (λ (x : ℕ). x * 256 + get_or s n 0) (number_first n b s)
     ∙ more (256 ^ n) (256 ^ suc n) (pow-suc 256 n)
   where
     more : (m k : ℕ) → k ≡ m * 256 → (b * m + number_in n s) * 256 + get_or s n 0 ≡ b * k + (number_in n s * 256 + get_or s n 0)
@@ -20,40 +20,40 @@ number-first (suc n) b s =
         let whole : b * k ≡ b * m * 256 = ap (λ (x : ℕ). b * x) e ∙ sym (mul_assoc b m 256) in
         omega (arith, whole, add-mul (b * m) (number_in n s) 256)
 
-number-back : (n x : ℕ) (t : List ℕ) → number_in n (bigEndian n x ++ t) ≡ x % 256 ^ n
-unfolding bigEndian number_in
-number-back zero x t = sym (mod-one x)
-number-back (suc n) x t =
-    number-first n (x / 256 ^ n % 256) (bigEndian n x ++ t)
-    ∙ ap (λ (y : ℕ). (x / 256 ^ n % 256) * 256 ^ n + y) (number-back n x t)
+number_back : (n x : ℕ) (t : List ℕ) → number_in n (big_endian n x ++ t) ≡ x % 256 ^ n
+unfolding big_endian number_in
+number_back zero x t = sym (mod-one x)
+number_back (suc n) x t =
+    number_first n (x / 256 ^ n % 256) (big_endian n x ++ t)
+    ∙ ap (λ (y : ℕ). (x / 256 ^ n % 256) * 256 ^ n + y) (number_back n x t)
     ∙ sym (mod-mul x {m = 256} {c = 256 ^ n} (omega arith) (one-le-pow n 256 (omega arith)))
     ∙ ap (λ (m : ℕ). x % m) (mul_comm 256 (256 ^ n) ∙ sym (pow-suc 256 n))
 
-flag-back : (t : Bool) → not (eqb (cond t 1 0) 0) ≡ t
-flag-back true = refl
-flag-back false = refl
+flag_back : (t : Bool) → not (eqb (cond t 1 0) 0) ≡ t
+flag_back true = refl
+flag_back false = refl
 
-pub bytes_back : (p : Position) → BetweenCalls p → positionIn (bytesOf p) ≡ p
-unfolding positionIn bytesOf bigEndian
+pub bytes_back : (p : Position) → BetweenCalls p → position_in (bytes_of p) ≡ p
+unfolding position_in bytes_of big_endian
 bytes_back p between =
-    let held : List ℕ = p.begun ++ replicate (MostHeld - length p.begun) 0 in
-    let kept : orNone (take (length p.begun) held) ≡ p.begun =
-    ap orNone (take_at p.begun (replicate (MostHeld - length p.begun) 0) (length p.begun) refl)
-    ∙ ap (λ (t : Bool). cond t p.begun []) between.open-record in
+    let held : List ℕ = p.begun ++ replicate (most_held - length p.begun) 0 in
+    let kept : or_none (take (length p.begun) held) ≡ p.begun =
+    ap or_none (take_at p.begun (replicate (most_held - length p.begun) 0) (length p.begun) refl)
+    ∙ ap (λ (t : Bool). cond t p.begun []) between.open_record in
     λ i.
     record {
-      place = (number-back PlaceBytes p.place (cond p.stopped 1 0 ∷ length p.begun ∷ held) ∙ mod-eq_of_lt between.place) i;
-      stopped = flag-back p.stopped i;
+      place = (number_back place_bytes p.place (cond p.stopped 1 0 ∷ length p.begun ∷ held) ∙ mod-eq_of_lt between.place) i;
+      stopped = flag_back p.stopped i;
       begun = kept i;
     }
 
-fresh-is : bytesOf fresh ≡ freshBytes
-unfolding bytesOf bigEndian
-fresh-is = refl
+fresh_is : bytes_of fresh ≡ fresh_bytes
+unfolding bytes_of big_endian
+fresh_is = refl
 
 -- "24 zeros are a fresh state"
-pub bytes-keep : Keeping byBytes freshBytes
-bytes-keep = record { back = bytes_back; starts = fresh-is }
+pub bytes_keep : Keeping by_bytes fresh_bytes
+bytes_keep = record { back = bytes_back; starts = fresh_is }
 
-pub value_keeps : Keeping byValue fresh
+pub value_keeps : Keeping by_value fresh
 value_keeps = record { back = λ p between. refl; starts = refl }

@@ -3,46 +3,46 @@ use Rattle.std.proofs.Common.{◌≡◌, ℕ, ◌<◌, ◌≤◌, Bool, true, fa
 use lib.ListN.{length-map}
 use Rattle.frame.proofs.bytes.Laws.{cases}
 use Rattle.stream.specs.declared.state.StreamState.{StreamState}
-use Rattle.stream.specs.Record.{FrameRecord, kind_of, wholeSize, partial}
+use Rattle.stream.specs.Record.{frame_record_size, kind_of, whole_size, partial}
 use Rattle.stream.specs.Reader.{Position, position_of}
-use Rattle.stream.specs.Contracts.{isOpen, standing, StandsAt}
-use Rattle.stream.proofs.record.Laws.{size-within, part-size, partial-of, no_bytes}
+use Rattle.stream.specs.Inner.{is_open, standing, StandsAt}
+use Rattle.stream.proofs.record.Laws.{size_within, part_size, partial_of, no_bytes}
 
 -- The room of an array, as a parameter tells it.
-pub room_of : (held : List ℕ) → length (map (λ (b : ℕ). b) held) ≡ FrameRecord → length held ≡ FrameRecord
+pub room_of : (held : List ℕ) → length (map (λ (b : ℕ). b) held) ≡ frame_record_size → length held ≡ frame_record_size
 room_of held e = sym (length-map held (λ (b : ℕ). b)) ∙ e
 
-module _ (s : StreamState) (room : length s.held ≡ FrameRecord) where
+module _ (s : StreamState) (room : length s.held ≡ frame_record_size) where
   -- With none held where no partial record has them, a state stands where it is.
-  pub stands-sound :
+  pub stands_sound :
       {n : ℕ}
-      → n ≡ cond (isOpen s.count (kind_of s.held)) s.count 0
+      → n ≡ cond (is_open s.count (kind_of s.held)) s.count 0
       → StandsAt (record { place = s.place; stopped = s.stopped; count = n; held = s.held }) (position_of s)
   unfolding position_of
-  stands-sound {n} e =
-      let size = wholeSize (kind_of s.held) in
+  stands_sound {n} e =
+      let size = whole_size (kind_of s.held) in
       record {
         position =
             (λ i. record { place = s.place; stopped = s.stopped; begun = take (e i) s.held })
             ∙ ap (λ (u : List ℕ). record { place = s.place; stopped = s.stopped; begun = u })
-            (part-taken (isOpen s.count (kind_of s.held))
-            ∙ ap (λ (t : Bool). cond t (take s.count s.held) []) (sym (partial-of s.held s.count room)));
+            (part_taken (is_open s.count (kind_of s.held))
+            ∙ ap (λ (t : Bool). cond t (take s.count s.held) []) (sym (partial_of s.held s.count room)));
         room = room;
-        within = omega (arith, e, few (isOpen s.count (kind_of s.held)) refl, (size-within (kind_of s.held)).1);
+        within = omega (arith, e, few (is_open s.count (kind_of s.held)) refl, (size_within (kind_of s.held)).1);
       }
     where
-      part-taken : (t : Bool) → take (cond t s.count 0) s.held ≡ cond t (take s.count s.held) []
-      part-taken true = refl
-      part-taken false = refl
+      part_taken : (t : Bool) → take (cond t s.count 0) s.held ≡ cond t (take s.count s.held) []
+      part_taken true = refl
+      part_taken false = refl
 
-      few : (t : Bool) → isOpen s.count (kind_of s.held) ≡ t → cond t s.count 0 ≤ wholeSize (kind_of s.held)
-      few true o = let l : s.count < wholeSize (kind_of s.held) = ltb-true s.count (wholeSize (kind_of s.held)) o in omega (arith, l)
+      few : (t : Bool) → is_open s.count (kind_of s.held) ≡ t → cond t s.count 0 ≤ whole_size (kind_of s.held)
+      few true o = let l : s.count < whole_size (kind_of s.held) = ltb-true s.count (whole_size (kind_of s.held)) o in omega (arith, l)
       few false o = omega arith
 
 -- Every state by value is at a position with no whole record; and where a state stands there, it is at it.
-pub open-position : (s : StreamState) → partial (position_of s).begun ≡ true
+pub open_position : (s : StreamState) → partial (position_of s).begun ≡ true
 unfolding position_of
-open-position s = cases (partial (take s.count s.held)) (λ e. rw e e) (λ e. rw e no_bytes)
+open_position s = cases (partial (take s.count s.held)) (λ e. rw e e) (λ e. rw e no_bytes)
 
 pub at_position : {s : StreamState} {p : Position} → StandsAt s p → partial p.begun ≡ true → position_of s ≡ p
 unfolding position_of
@@ -62,12 +62,12 @@ begins w o = (
 )
 
 -- A partial record leaves room for a byte.
-pub room-left : {s : StreamState} {p : Position} → StandsAt s p → partial (standing s).begun ≡ true → s.count < FrameRecord
-room-left {s} w e =
+pub room_left : {s : StreamState} {p : Position} → StandsAt s p → partial (standing s).begun ≡ true → s.count < frame_record_size
+room_left {s} w e =
     let size = length-take-le s.count s.held (omega (arith, w.room, w.within)) in
-    omega (arith, part-size (standing s).begun e, (size-within (kind_of (standing s).begun)).1, size)
+    omega (arith, part_size (standing s).begun e, (size_within (kind_of (standing s).begun)).1, size)
 
 -- The place is the state's own.
-pub position-place : (s : StreamState) → s.place ≡ (position_of s).place
+pub position_place : (s : StreamState) → s.place ≡ (position_of s).place
 unfolding position_of
-position-place s = refl
+position_place s = refl

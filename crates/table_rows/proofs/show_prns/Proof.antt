@@ -1,4 +1,4 @@
--- The PRN stays within its range.
+-- The prn_kind stays within its range.
 use Prim.Native.Nat.{◌≤◌, ◌-◌}
 use native.Mathlib.Omega.{arith}
 use Rattle.table_rows.proofs.show_prns.Statement.{statement}

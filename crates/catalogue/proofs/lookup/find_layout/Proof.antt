@@ -1,6 +1,6 @@
 -- The layout of the record that the key finds, if any.
 use mathlib.Core.Path.{ap, ◌∙◌}
-use Rattle.catalogue.specs.Lookup.{layoutFound}
+use Rattle.catalogue.specs.Lookup.{layout_found}
 use borrow.Author.Rules.{rules}
 use Rattle.catalogue.proofs.lookup.find_layout.Statement.{statement}
 use Rattle.catalogue.proofs.lookup.find_layout.Tie as tie
@@ -11,4 +11,4 @@ find-layout-spec =
     (tie.spec
     (λ c κs. search rules)
     (λ c κs. search rules)
-    (λ c. c.layout_of.ensures ∙ ap layoutFound c.before.bytes-with.ensures))
+    (λ c. c.layout_of.ensures ∙ ap layout_found c.before.bytes_with.ensures))

@@ -1,6 +1,6 @@
 -- The record that the key finds, if any, field by field.
-use Rattle.catalogue.specs.Record.{prnRow}
-use Rattle.catalogue.proofs.lookup.Own.{row-missing, row-found}
+use Rattle.catalogue.specs.Record.{prn_row}
+use Rattle.catalogue.proofs.lookup.Own.{row_missing, row_found}
 use borrow.Author.Rules.{rules}
 use Rattle.catalogue.proofs.lookup.own_prn.Statement.{statement}
 use Rattle.catalogue.proofs.lookup.own_prn.Tie as tie
@@ -13,6 +13,6 @@ own-prn-spec =
     (λ c. search rules)
     (λ c. search rules)
     (λ c κs. search rules)
-    (λ c. row-missing prnRow _ c.before.bytes-with.ensures c.if1.true)
+    (λ c. row_missing prn_row _ c.before.bytes_with.ensures c.if1.true)
     (λ c κs. search rules)
-    (λ c. row-found prnRow _ c.before.before.bytes-with.ensures c.before.if1.false c.prn-of.ensures))
+    (λ c. row_found prn_row _ c.before.before.bytes_with.ensures c.before.if1.false c.prn_of.ensures))

@@ -2,10 +2,10 @@
 use mathlib.Core.Path.{◌≡◌, ap, ◌∙◌}
 use Prim.Native.Nat.{ℕ, ◌-◌, ◌≤◌, ◌<◌}
 use native.Mathlib.Omega.{arith}
-use Rattle.catalogue.specs.Record.{MostPrns}
-use Rattle.catalogue.specs.Lookup.{prnsUsed}
-use Rattle.catalogue.specs.Contracts.{PrnsRead}
-use Rattle.catalogue.proofs.lookup.Prns.{none_read, one-read, all_read}
+use Rattle.catalogue.specs.Record.{most_prns}
+use Rattle.catalogue.specs.Lookup.{prns_used}
+use Rattle.catalogue.specs.Inner.{PrnsRead}
+use Rattle.catalogue.proofs.lookup.Prns.{none_read, one_read, all_read}
 use Rattle.catalogue.proofs.lookup.prns_of.Statement.{statement}
 use Rattle.catalogue.proofs.lookup.prns_of.Tie as tie
 
@@ -16,7 +16,7 @@ abbrev decreases-loop : tie.decreases-loop
 decreases-loop bytes count prns₀ i₀ prns i = count - i
 
 -- a turn for one of at most sixteen PRNs
-within : (c : tie.In-loop invariant-loop decreases-loop) → c.before.loop.i < MostPrns
+within : (c : tie.In-loop invariant-loop decreases-loop) → c.before.loop.i < most_prns
 within c = omega (arith, c.loop-test.true, c.before.before.before.requires)
 
 pub prns-of-spec : {M : Type 1} → statement M
@@ -33,8 +33,8 @@ prns-of-spec =
     (λ c. omega (arith, within c.before, c.before.before.loop.invariant.0.room))
     (λ c. omega (arith, within c.before))
     (λ c. omega (arith, c.before.loop-test.true))
-    (λ c. (one-read _ c.before.before.loop.invariant.0 (within c.before) c.two_at.ensures, omega (arith, c.before.loop-test.true)))
+    (λ c. (one_read _ c.before.before.loop.invariant.0 (within c.before) c.two_at.ensures, omega (arith, c.before.loop-test.true)))
     (λ c.
     let loop = c.before.loop in
     let all : loop.i ≡ c.before.before.before.args.count = omega (arith, loop.invariant.1, c.loop-test.false) in
-    all_read _ loop.invariant.0 ∙ ap (λ (n : ℕ). prnsUsed n c.before.before.before.args.bytes.now) all))
+    all_read _ loop.invariant.0 ∙ ap (λ (n : ℕ). prns_used n c.before.before.before.args.bytes.now) all))

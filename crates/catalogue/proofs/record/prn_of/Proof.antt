@@ -1,11 +1,11 @@
 -- Field by field.
-use Rattle.catalogue.specs.Record.{prnRow}
+use Rattle.catalogue.specs.Record.{prn_row}
 use borrow.Author.Rules.{rules}
 use Rattle.catalogue.proofs.record.prn_of.Statement.{statement}
 use Rattle.catalogue.proofs.record.prn_of.Tie as tie
 
 fields : tie.Need-returns
-unfolding prnRow
+unfolding prn_row
 fields c =
     λ i.
     record {

@@ -1,11 +1,11 @@
 -- Field by field.
-use Rattle.catalogue.specs.Record.{slotRow}
+use Rattle.catalogue.specs.Record.{slot_row}
 use borrow.Author.Rules.{rules}
 use Rattle.catalogue.proofs.record.slot_of.Statement.{statement}
 use Rattle.catalogue.proofs.record.slot_of.Tie as tie
 
 fields : tie.Need-returns
-unfolding slotRow
+unfolding slot_row
 fields c =
     λ i.
     record {
@@ -14,7 +14,7 @@ fields c =
       number = c.before.before.before.before.before.two_at.ensures i;
       multiplier = c.before.before.before.before.two-at2.ensures i;
       divisor = c.before.before.before.two-at3.ensures i;
-      offset = c.before.before.four-at.ensures i;
+      offset = c.before.before.four_at.ensures i;
       lowest = c.before.four-at2.ensures i;
       highest = c.four-at3.ensures i;
     }

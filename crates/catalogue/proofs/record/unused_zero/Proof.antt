@@ -2,7 +2,7 @@
 use mathlib.Core.Path.{◌∙◌}
 use mathlib.Core.List.{[], ◌∷◌}
 use lib.ListN.{drop}
-use Rattle.catalogue.specs.Record.{allZero}
+use Rattle.catalogue.specs.Record.{all_zero}
 use borrow.Author.Rules.{rules}
 use Rattle.catalogue.proofs.record.unused_zero.Statement.{statement}
 use Rattle.catalogue.proofs.record.unused_zero.Tie as tie
@@ -10,8 +10,8 @@ use Rattle.catalogue.proofs.record.unused_zero.Tie as tie
 returns : tie.Need-returns
 returns c =
     let read = c.before.before.before in
-    c.all-zero.ensures
-    ∙ (λ i. allZero (drop (c.before.byte-at3.ensures i) (read.before.byte_at.ensures i ∷ read.byte-at2.ensures i ∷ [])))
+    c.all_zero.ensures
+    ∙ (λ i. all_zero (drop (c.before.byte-at3.ensures i) (read.before.byte_at.ensures i ∷ read.byte-at2.ensures i ∷ [])))
 
 pub unused-zero-spec : {M : Type 1} → statement M
 unused-zero-spec =

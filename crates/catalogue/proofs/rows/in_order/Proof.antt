@@ -2,20 +2,20 @@
 use mathlib.Core.Path.{sym, ◌∙◌}
 use borrow.Author.Tests.{eq-eqb, ne_eqb}
 use lib.Dec.{leb}
-use Rattle.catalogue.specs.Rows.{SNM, inOrder}
+use Rattle.catalogue.specs.Rows.{snm, in_order}
 use borrow.Author.Rules.{rules}
 use Rattle.catalogue.proofs.rows.in_order.Statement.{statement}
 use Rattle.catalogue.proofs.rows.in_order.Tie as tie
 
 signed : tie.Need-returns
-unfolding inOrder
+unfolding in_order
 signed c =
     let test = c.before.before in
-    (λ i. leb (c.before.raised.ensures i) (c.raised2.ensures i)) ∙ sym (rw (eq-eqb test.before.args.form SNM test.if1.true))
+    (λ i. leb (c.before.raised.ensures i) (c.raised2.ensures i)) ∙ sym (rw (eq-eqb test.before.args.form snm test.if1.true))
 
 unsigned : tie.Need-returns-2
-unfolding inOrder
-unsigned c = sym (rw (ne_eqb c.before.args.form SNM c.if1.false))
+unfolding in_order
+unsigned c = sym (rw (ne_eqb c.before.args.form snm c.if1.false))
 
 pub in-order-spec : {M : Type 1} → statement M
 in-order-spec = tie.close (tie.spec (λ c κs. search rules) (λ c κs. search rules) signed unsigned)

@@ -1,39 +1,39 @@
 -- Each test is a part of the definition.
 use mathlib.Core.Path.{sym}
 use borrow.Author.Tests.{le-leb, lt-leb}
-use Rattle.catalogue.specs.Rows.{UNM, PKT, keyFits}
+use Rattle.catalogue.specs.Rows.{unm, pkt, key_fits}
 use Rattle.catalogue.proofs.rows.key_fits.Statement.{statement}
 use Rattle.catalogue.proofs.rows.key_fits.Tie as tie
 
 form-below : tie.Need-returns
-unfolding keyFits
-form-below c = sym (rw (lt-leb UNM c.before.args.form c.if1.true))
+unfolding key_fits
+form-below c = sym (rw (lt-leb unm c.before.args.form c.if1.true))
 
 form-above : tie.Need-returns-2
-unfolding keyFits
+unfolding key_fits
 form-above c =
     let a = c.before.before.args in
-    sym (rw (le-leb UNM a.form c.before.if1.false, lt-leb a.form PKT c.if2.true))
+    sym (rw (le-leb unm a.form c.before.if1.false, lt-leb a.form pkt c.if2.true))
 
 width-below : tie.Need-returns-3
-unfolding keyFits
+unfolding key_fits
 width-below c =
     let a = c.before.before.before.args in
     sym
     (rw (
-      le-leb UNM a.form c.before.before.if1.false,
-      le-leb a.form PKT c.before.if2.false,
+      le-leb unm a.form c.before.before.if1.false,
+      le-leb a.form pkt c.before.if2.false,
       lt-leb 1 a.width c.if3.true,
     ))
 
 width-told : tie.Need-returns-4
-unfolding keyFits
+unfolding key_fits
 width-told c =
     let a = c.before.before.before.args in
     sym
     (rw (
-      le-leb UNM a.form c.before.before.if1.false,
-      le-leb a.form PKT c.before.if2.false,
+      le-leb unm a.form c.before.before.if1.false,
+      le-leb a.form pkt c.before.if2.false,
       le-leb 1 a.width c.if3.false,
     ))
 

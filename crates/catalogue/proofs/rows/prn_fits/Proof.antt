@@ -1,5 +1,5 @@
--- The ranges of a PRN row are those of form and width.
-use Rattle.catalogue.specs.Rows.{prnFits}
+-- The ranges of a prn_kind row are those of form and width.
+use Rattle.catalogue.specs.Rows.{prn_fits}
 use borrow.Author.Rules.{rules}
 use Rattle.catalogue.proofs.rows.prn_fits.Statement.{statement}
 use Rattle.catalogue.proofs.rows.prn_fits.Tie as tie
@@ -8,7 +8,7 @@ key-fits-requires : tie.Need-key-fits-requires
 key-fits-requires c κs = search rules
 
 returns : tie.Need-returns
-unfolding prnFits
+unfolding prn_fits
 returns c = c.key_fits.ensures
 
 pub prn-fits-spec : {M : Type 1} → statement M

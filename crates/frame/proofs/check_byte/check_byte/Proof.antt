@@ -3,13 +3,13 @@ use mathlib.Core.Path.{◌≡◌, refl, sym, ap, ◌∙◌}
 use Prim.Native.Nat.{ℕ, ◌≤◌, ◌<◌, ◌-◌}
 use native.Mathlib.Omega.{arith}
 use lib.ListN.{length, drop}
-use Rattle.frame.specs.CheckByte.{AllOnes, register, checkByte}
-use Rattle.frame.proofs.check_byte.Laws.{register-next, register-end}
+use Rattle.frame.specs.check_byte.{all_ones, register, check_byte}
+use Rattle.frame.proofs.check_byte.Laws.{register_next, register_end}
 use Rattle.frame.proofs.check_byte.check_byte.Statement.{statement}
 use Rattle.frame.proofs.check_byte.check_byte.Tie as tie
 
 abbrev invariant-loop : tie.invariant-loop
-invariant-loop run r₀ i₀ r i = (register AllOnes run ≡ register r (drop i run)) × (i ≤ length run) × (r < 256)
+invariant-loop run r₀ i₀ r i = (register all_ones run ≡ register r (drop i run)) × (i ≤ length run) × (r < 256)
 
 abbrev decreases-loop : tie.decreases-loop
 decreases-loop run r₀ i₀ r i = length run - i
@@ -32,17 +32,17 @@ loop-less c = omega arith
 loop-again : tie.Need-loop-preserved invariant-loop decreases-loop
 loop-again c =
     let loop = c.before.before.before.loop in
-    let next = register-next _ _ loop.r c.before.before.loop-test.true in
+    let next = register_next _ _ loop.r c.before.before.loop-test.true in
     (rw c.feed.ensures (loop.invariant.0 ∙ next), omega arith, omega arith)
 
 sub-result : tie.Need-overflow-sub-result invariant-loop decreases-loop
 sub-result c = omega arith
 
 returns : tie.Need-returns invariant-loop decreases-loop
-unfolding checkByte
+unfolding check_byte
 returns c =
-    ap (λ (r : ℕ). AllOnes - r)
-    (sym (c.before.loop.invariant.0 ∙ register-end _ _ c.before.loop.r c.loop-test.false))
+    ap (λ (r : ℕ). all_ones - r)
+    (sym (c.before.loop.invariant.0 ∙ register_end _ _ c.before.loop.r c.loop-test.false))
 
 pub check-byte-spec : {M : Type 1} → statement M
 check-byte-spec =

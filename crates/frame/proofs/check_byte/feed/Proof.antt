@@ -4,15 +4,15 @@ use lib.Bits.{bit_xor}
 use Prim.Native.Nat.{ℕ, ◌≤◌, ◌-◌}
 use native.Mathlib.Omega.{arith}
 use native.Mathlib.Numerals.{add-one}
-use Rattle.frame.specs.CheckByte.{ByteBits, step, steps, feed}
+use Rattle.frame.specs.check_byte.{byte_bits, step, steps, feed}
 use Rattle.frame.proofs.check_byte.feed.Statement.{statement}
 use Rattle.frame.proofs.check_byte.feed.Tie as tie
 
 abbrev invariant-loop : tie.invariant-loop
-invariant-loop r b s₀ counter₀ s counter = (s ≡ steps counter s₀) × (counter ≤ ByteBits)
+invariant-loop r b s₀ counter₀ s counter = (s ≡ steps counter s₀) × (counter ≤ byte_bits)
 
 abbrev decreases-loop : tie.decreases-loop
-decreases-loop r b s₀ counter₀ s counter = ByteBits - counter
+decreases-loop r b s₀ counter₀ s counter = byte_bits - counter
 
 loop-holds : tie.Need-loop-init invariant-loop decreases-loop
 unfolding steps

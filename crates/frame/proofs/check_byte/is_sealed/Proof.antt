@@ -5,14 +5,14 @@ use borrow.Author.Rules.{rules}
 use borrow.Author.Tests.{le-ltb}
 use lib.ListN.{length}
 use lib.Seq.{length-take-le}
-use Rattle.frame.specs.Seal.{isSealedBy}
-use Rattle.frame.specs.CheckByte.{checkByte}
-use Rattle.frame.proofs.seal.Laws.{last-decides}
+use Rattle.frame.specs.seal.{is_sealed_by}
+use Rattle.frame.specs.check_byte.{check_byte}
+use Rattle.frame.proofs.seal.Laws.{last_decides}
 use Rattle.frame.proofs.check_byte.is_sealed.Statement.{statement}
 use Rattle.frame.proofs.check_byte.is_sealed.Tie as tie
 
 returns : tie.Need-returns
-unfolding isSealedBy
+unfolding is_sealed_by
 returns c = sym (rw (le-ltb 0 (length c.before.before.args.run.now) (omega arith)))
 
 sub-last : tie.Need-overflow-sub-last
@@ -30,7 +30,7 @@ check-byte-requires c κs = search rules
 returns-2 : tie.Need-returns-2
 returns-2 c =
     let run = c.before.before.before.before.before.args.run.now in
-    rw c.check-byte.ensures (sym (last-decides checkByte run (omega arith)))
+    rw c.check_byte.ensures (sym (last_decides check_byte run (omega arith)))
 
 pub is-sealed-spec : {M : Type 1} → statement M
 is-sealed-spec =

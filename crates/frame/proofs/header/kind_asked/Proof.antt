@@ -1,6 +1,6 @@
 -- The three calls are the three parts of the definition.
 use mathlib.Core.Path.{ap, ◌∙◌}
-use Rattle.frame.specs.Header.{messageType, responseKind, kindAsked}
+use Rattle.frame.specs.Header.{message_type, response_kind, kind_asked}
 use borrow.Author.Rules.{rules}
 use Rattle.frame.proofs.header.kind_asked.Statement.{statement}
 use Rattle.frame.proofs.header.kind_asked.Tie as tie
@@ -15,10 +15,10 @@ response-kind-requires : tie.Need-response-kind-requires
 response-kind-requires c κs = search rules
 
 returns : tie.Need-returns
-unfolding kindAsked
+unfolding kind_asked
 returns c =
-    c.response-kind.ensures
-    ∙ ap responseKind (c.before.message-type.ensures ∙ ap messageType c.before.before.byte_at.ensures)
+    c.response_kind.ensures
+    ∙ ap response_kind (c.before.message_type.ensures ∙ ap message_type c.before.before.byte_at.ensures)
 
 pub kind-asked-spec : {M : Type 1} → statement M
 kind-asked-spec =

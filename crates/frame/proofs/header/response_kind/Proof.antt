@@ -4,8 +4,8 @@ use mathlib.Core.Logic.{⊎_elim}
 use Prim.Native.Nat.{ℕ, zero, suc, ◌≤◌, zero-le}
 use native.Mathlib.Nat.{eq-or-lt_of_le}
 use lib.ListN.{get_or-eq_default}
-use Rattle.frame.specs.Header.{responseKind, typeTable}
-use Rattle.frame.specs.declared.response.ResponseKind.TheVariants.{Unassigned}
+use Rattle.frame.specs.Header.{response_kind, type_table}
+use Rattle.frame.specs.declared.response.response_kind.TheVariants.{Unassigned}
 use Rattle.frame.proofs.header.response_kind.Statement.{statement}
 use Rattle.frame.proofs.header.response_kind.Tie as tie
 
@@ -19,72 +19,72 @@ past zero t h = zero-le
 past (suc n) t h = ⊎_elim (λ (e : n ≡ t). absurd (h.1 (sym e))) (λ l. l) (eq-or-lt_of_le (past n t h.0))
 
 returns : tie.Need-returns
-unfolding responseKind typeTable
-returns c = ap responseKind (sym c.match.keys1)
+unfolding response_kind type_table
+returns c = ap response_kind (sym c.match.keys1)
 
 returns-2 : tie.Need-returns-2
-unfolding responseKind typeTable
-returns-2 c = ap responseKind (sym c.match.keys2)
+unfolding response_kind type_table
+returns-2 c = ap response_kind (sym c.match.keys2)
 
 returns-3 : tie.Need-returns-3
-unfolding responseKind typeTable
-returns-3 c = ap responseKind (sym c.match.keys3)
+unfolding response_kind type_table
+returns-3 c = ap response_kind (sym c.match.keys3)
 
 returns-4 : tie.Need-returns-4
-unfolding responseKind typeTable
-returns-4 c = ap responseKind (sym c.match.keys4)
+unfolding response_kind type_table
+returns-4 c = ap response_kind (sym c.match.keys4)
 
 returns-5 : tie.Need-returns-5
-unfolding responseKind typeTable
-returns-5 c = ap responseKind (sym c.match.keys5)
+unfolding response_kind type_table
+returns-5 c = ap response_kind (sym c.match.keys5)
 
 returns-6 : tie.Need-returns-6
-unfolding responseKind typeTable
-returns-6 c = ap responseKind (sym c.match.keys6)
+unfolding response_kind type_table
+returns-6 c = ap response_kind (sym c.match.keys6)
 
 returns-7 : tie.Need-returns-7
-unfolding responseKind typeTable
-returns-7 c = ap responseKind (sym c.match.keys7)
+unfolding response_kind type_table
+returns-7 c = ap response_kind (sym c.match.keys7)
 
 returns-8 : tie.Need-returns-8
-unfolding responseKind typeTable
-returns-8 c = ap responseKind (sym c.match.keys8)
+unfolding response_kind type_table
+returns-8 c = ap response_kind (sym c.match.keys8)
 
 returns-9 : tie.Need-returns-9
-unfolding responseKind typeTable
-returns-9 c = ap responseKind (sym c.match.keys9)
+unfolding response_kind type_table
+returns-9 c = ap response_kind (sym c.match.keys9)
 
 returns-10 : tie.Need-returns-10
-unfolding responseKind typeTable
-returns-10 c = ap responseKind (sym c.match.keys10)
+unfolding response_kind type_table
+returns-10 c = ap response_kind (sym c.match.keys10)
 
 returns-11 : tie.Need-returns-11
-unfolding responseKind typeTable
-returns-11 c = ap responseKind (sym c.match.keys11)
+unfolding response_kind type_table
+returns-11 c = ap response_kind (sym c.match.keys11)
 
 returns-12 : tie.Need-returns-12
-unfolding responseKind typeTable
-returns-12 c = ap responseKind (sym c.match.keys12)
+unfolding response_kind type_table
+returns-12 c = ap response_kind (sym c.match.keys12)
 
 returns-13 : tie.Need-returns-13
-unfolding responseKind typeTable
-returns-13 c = ap responseKind (sym c.match.keys13)
+unfolding response_kind type_table
+returns-13 c = ap response_kind (sym c.match.keys13)
 
 returns-14 : tie.Need-returns-14
-unfolding responseKind typeTable
-returns-14 c = ap responseKind (sym c.match.keys14)
+unfolding response_kind type_table
+returns-14 c = ap response_kind (sym c.match.keys14)
 
 returns-15 : tie.Need-returns-15
-unfolding responseKind typeTable
-returns-15 c = ap responseKind (sym c.match.keys15)
+unfolding response_kind type_table
+returns-15 c = ap response_kind (sym c.match.keys15)
 
 returns-16 : tie.Need-returns-16
-unfolding responseKind typeTable
-returns-16 c = ap responseKind (sym c.match.keys16)
+unfolding response_kind type_table
+returns-16 c = ap response_kind (sym c.match.keys16)
 
 returns-17 : tie.Need-returns-17
-unfolding responseKind typeTable
-returns-17 c = sym (get_or-eq_default typeTable Unassigned (past 16 c.before.args.t c.match.rest))
+unfolding response_kind type_table
+returns-17 c = sym (get_or-eq_default type_table Unassigned (past 16 c.before.args.t c.match.rest))
 
 pub response-kind-spec : {M : Type 1} → statement M
 response-kind-spec =

@@ -6,16 +6,16 @@ use native.Mathlib.Omega.{arith}
 use borrow.Author.Rules.{rules}
 use borrow.Author.Tests.{lt-ltb, le-ltb}
 use lib.ListN.{length, drop}
-use Rattle.frame.specs.CheckByte.{isSealed}
-use Rattle.frame.specs.Response.{isUnassigned, isChecked}
-use Rattle.frame.specs.Count.{countRefusal, DataSent}
-use Rattle.frame.specs.Header.{kindAsked}
-use Rattle.frame.specs.Frame.{MostBytes}
-use Rattle.frame.specs.Refusal.{firstBroken}
-use Rattle.frame.specs.Reader.{readRulesWith, readRules, readRefusal}
-use Rattle.frame.proofs.header.Laws.{header-range}
-use Rattle.frame.proofs.count.Laws.{count-given, count_past}
-use Rattle.frame.proofs.refusal.Laws.{broken, kept, last-kept}
+use Rattle.frame.specs.check_byte.{is_sealed}
+use Rattle.frame.specs.Response.{is_unassigned, is_checked}
+use Rattle.frame.specs.Count.{count_refusal, data_sent}
+use Rattle.frame.specs.Header.{kind_asked}
+use Rattle.frame.specs.Frame.{most_bytes}
+use Rattle.frame.specs.Refusal.{first_broken}
+use Rattle.frame.specs.Reader.{read_rules_with, read_rules, read_refusal}
+use Rattle.frame.proofs.header.Laws.{header_range}
+use Rattle.frame.proofs.count.Laws.{count_given, count_past}
+use Rattle.frame.proofs.refusal.Laws.{broken, kept, last_kept}
 use Rattle.frame.proofs.reader.read_refusal.Statement.{statement}
 use Rattle.frame.proofs.reader.read_refusal.Tie as tie
 
@@ -23,13 +23,13 @@ use Rattle.frame.proofs.reader.read_refusal.Tie as tie
 abbrev Passed : ℕ → tie.Start → Type 0
 Passed n s =
     let a = s.args in
-    readRefusal a.first.now a.response.now ≡ firstBroken (drop n (readRules a.first.now a.response.now))
+    read_refusal a.first.now a.response.now ≡ first_broken (drop n (read_rules a.first.now a.response.now))
 
 -- These four are kept, and so are the rules of the count: what is left is as if there were none.
 abbrev Counted : tie.Start → Type 0
 Counted s =
     let a = s.args in
-    readRefusal a.first.now a.response.now ≡ firstBroken (drop 4 (readRulesWith [] a.first.now a.response.now))
+    read_refusal a.first.now a.response.now ≡ first_broken (drop 4 (read_rules_with [] a.first.now a.response.now))
 
 -- How many bytes both runs have.
 abbrev total : tie.Start → ℕ
@@ -55,37 +55,37 @@ add-if1 : tie.Need-overflow-add-if1
 add-if1 c = search rules
 
 returns : tie.Need-returns
-unfolding readRefusal readRules readRulesWith
-returns c = sym (broken _ _ (lt-ltb MostBytes (total c.before.before.before) c.if1.true))
+unfolding read_refusal read_rules read_rules_with
+returns c = sym (broken _ _ (lt-ltb most_bytes (total c.before.before.before) c.if1.true))
 
 past1 : (c : tie.Else1) → Passed 1 (start1 c)
-unfolding readRefusal readRules readRulesWith
-past1 c = kept _ _ (le-ltb MostBytes (total (start1 c)) c.if1.false)
+unfolding read_refusal read_rules read_rules_with
+past1 c = kept _ _ (le-ltb most_bytes (total (start1 c)) c.if1.false)
 
 header-size-requires : tie.Need-header-size-requires
 header-size-requires c κs = search rules
 
 add-if2 : tie.Need-overflow-add-if2
-add-if2 c = omega (arith, c.header-size.ensures, header-range (start1 c.before).args.first.now)
+add-if2 c = omega (arith, c.header_size.ensures, header_range (start1 c.before).args.first.now)
 
 returns-2 : tie.Need-returns-2
-unfolding readRules readRulesWith
-returns-2 c = sym (past1 c.before.before ∙ broken _ _ (lt-ltb _ _ (rw c.before.header-size.ensures at c.if2.true)))
+unfolding read_rules read_rules_with
+returns-2 c = sym (past1 c.before.before ∙ broken _ _ (lt-ltb _ _ (rw c.before.header_size.ensures at c.if2.true)))
 
 past2 : (c : tie.Else2) → Passed 2 (start2 c)
-unfolding readRules readRulesWith
-past2 c = past1 c.before.before ∙ kept _ _ (le-ltb _ _ (rw c.before.header-size.ensures at c.if2.false))
+unfolding read_rules read_rules_with
+past2 c = past1 c.before.before ∙ kept _ _ (le-ltb _ _ (rw c.before.header_size.ensures at c.if2.false))
 
 is-sealed-requires : tie.Need-is-sealed-requires
 is-sealed-requires c κs = search rules
 
 returns-3 : tie.Need-returns-3
-unfolding readRules readRulesWith
-returns-3 c = sym (past2 c.before.before ∙ broken _ _ (rw c.before.is-sealed.ensures at c.if3.true))
+unfolding read_rules read_rules_with
+returns-3 c = sym (past2 c.before.before ∙ broken _ _ (rw c.before.is_sealed.ensures at c.if3.true))
 
 past3 : (c : tie.Else3) → Passed 3 (start3 c)
-unfolding readRules readRulesWith
-past3 c = past2 c.before.before ∙ kept _ _ (rw c.before.is-sealed.ensures at c.if3.false)
+unfolding read_rules read_rules_with
+past3 c = past2 c.before.before ∙ kept _ _ (rw c.before.is_sealed.ensures at c.if3.false)
 
 kind-asked-requires : tie.Need-kind-asked-requires
 kind-asked-requires c κs = search rules
@@ -93,15 +93,15 @@ kind-asked-requires c κs = search rules
 is-unassigned-requires : tie.Need-is-unassigned-requires
 is-unassigned-requires c κs = search rules
 
-assigned : (c : tie.After-is-unassigned) → isUnassigned (kindAsked (start3 c.before.before).args.first.now) ≡ c.is-unassigned.result
-assigned c = ap isUnassigned (sym c.before.kind-asked.ensures) ∙ sym c.is-unassigned.ensures
+assigned : (c : tie.After-is-unassigned) → is_unassigned (kind_asked (start3 c.before.before).args.first.now) ≡ c.is_unassigned.result
+assigned c = ap is_unassigned (sym c.before.kind_asked.ensures) ∙ sym c.is_unassigned.ensures
 
 returns-4 : tie.Need-returns-4
-unfolding readRules readRulesWith
+unfolding read_rules read_rules_with
 returns-4 c = sym (past3 c.before.before.before ∙ broken _ _ (assigned c.before ∙ c.if4.true))
 
 past4 : (c : tie.Else4) → Passed 4 (start4 c)
-unfolding readRules readRulesWith
+unfolding read_rules read_rules_with
 past4 c = past3 c.before.before.before ∙ kept _ _ (assigned c.before ∙ c.if4.false)
 
 count-refusal-requires : tie.Need-count-refusal-requires
@@ -110,52 +110,52 @@ count-refusal-requires c κs = search rules
 -- What the count is refused with, for the kind that the first byte asks for.
 counted :
     (c : tie.After-count-refusal)
-    → c.count-refusal.result ≡ (let a = (start4 c.before).args in countRefusal (kindAsked a.first.now) DataSent (length a.response.now))
+    → c.count_refusal.result ≡ (let a = (start4 c.before).args in count_refusal (kind_asked a.first.now) data_sent (length a.response.now))
 counted c =
     let n = length (start4 c.before).args.response.now in
-    let kind = c.before.before.before.kind-asked in
-    let told : c.count-refusal.result ≡ countRefusal kind.result DataSent n = c.count-refusal.ensures in
-    told ∙ ap (λ k. countRefusal k DataSent n) kind.ensures
+    let kind = c.before.before.before.kind_asked in
+    let told : c.count_refusal.result ≡ count_refusal kind.result data_sent n = c.count_refusal.ensures in
+    told ∙ ap (λ k. count_refusal k data_sent n) kind.ensures
 
 returns-5 : tie.Need-returns-5
-unfolding readRules readRulesWith
+unfolding read_rules read_rules_with
 returns-5 c =
     let told = counted c.before in
-    told ∙ sym (past4 c.before.before ∙ count-given _ DataSent _ _ (λ z. c.if5.true (told ∙ z)))
+    told ∙ sym (past4 c.before.before ∙ count_given _ data_sent _ _ (λ z. c.if5.true (told ∙ z)))
 
 past5 : (c : tie.Else5) → Counted (start5 c)
-unfolding readRules readRulesWith
-past5 c = past4 c.before.before ∙ count_past _ DataSent _ _ (sym (counted c.before) ∙ c.if5.false)
+unfolding read_rules read_rules_with
+past5 c = past4 c.before.before ∙ count_past _ data_sent _ _ (sym (counted c.before) ∙ c.if5.false)
 
 is-checked-requires : tie.Need-is-checked-requires
 is-checked-requires c κs = search rules
 
-checked : (c : tie.After-is-checked) → isChecked (kindAsked (start5 c.before).args.first.now) ≡ c.is-checked.result
-checked c = ap isChecked (sym c.before.before.before.before.before.kind-asked.ensures) ∙ sym c.is-checked.ensures
+checked : (c : tie.After-is-checked) → is_checked (kind_asked (start5 c.before).args.first.now) ≡ c.is_checked.result
+checked c = ap is_checked (sym c.before.before.before.before.before.kind_asked.ensures) ∙ sym c.is_checked.ensures
 
 is-sealed-requires-2 : tie.Need-is-sealed-requires-2
 is-sealed-requires-2 c κs = search rules
 
-response-sealed : (c : tie.After-is-sealed2) → isSealed (start5 c.before.before.before).args.response.now ≡ c.is-sealed2.result
+response-sealed : (c : tie.After-is-sealed2) → is_sealed (start5 c.before.before.before).args.response.now ≡ c.is-sealed2.result
 response-sealed c = sym c.is-sealed2.ensures
 
 returns-6 : tie.Need-returns-6
-unfolding readRulesWith
+unfolding read_rules_with
 returns-6 c =
     let asked = c.before.before.before in
     let is = c.before.before.if6.true in
     sym (past5 asked.before ∙ broken _ _ (rw (checked asked, is, response-sealed c.before) c.if7.true))
 
 returns-7 : tie.Need-returns-7
-unfolding readRulesWith
+unfolding read_rules_with
 returns-7 c =
     let asked = c.before.before.before in
     let is = c.before.before.if6.true in
-    sym (past5 asked.before ∙ last-kept _ (rw (checked asked, is, response-sealed c.before) c.if7.false))
+    sym (past5 asked.before ∙ last_kept _ (rw (checked asked, is, response-sealed c.before) c.if7.false))
 
 returns-8 : tie.Need-returns-8
-unfolding readRulesWith
-returns-8 c = sym (past5 c.before.before ∙ last-kept _ (rw (checked c.before, c.if6.false)))
+unfolding read_rules_with
+returns-8 c = sym (past5 c.before.before ∙ last_kept _ (rw (checked c.before, c.if6.false)))
 
 pub read-refusal-spec : {M : Type 1} → statement M
 read-refusal-spec =

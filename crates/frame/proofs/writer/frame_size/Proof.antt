@@ -1,8 +1,8 @@
 -- The two branches are the two cases of the frame's size.
 use mathlib.Core.Path.{◌≡◌, sym, ap, ◌∙◌}
-use Rattle.frame.specs.Header.{kindAsked}
-use Rattle.frame.specs.Response.{isChecked}
-use Rattle.frame.proofs.writer.Laws.{size-checked, size-plain}
+use Rattle.frame.specs.Header.{kind_asked}
+use Rattle.frame.specs.Response.{is_checked}
+use Rattle.frame.proofs.writer.Laws.{size_checked, size_plain}
 use borrow.Author.Rules.{rules}
 use Rattle.frame.proofs.writer.frame_size.Statement.{statement}
 use Rattle.frame.proofs.writer.frame_size.Tie as tie
@@ -29,18 +29,18 @@ add-result c = search rules
 abbrev start : tie.After-is-checked → tie.Start
 start c = c.before.before.before.before.before
 
-checked : (c : tie.After-is-checked) → isChecked (kindAsked (start c).args.header.now) ≡ c.is-checked.result
-checked c = ap isChecked (sym c.before.kind-asked.ensures) ∙ sym c.is-checked.ensures
+checked : (c : tie.After-is-checked) → is_checked (kind_asked (start c).args.header.now) ≡ c.is_checked.result
+checked c = ap is_checked (sym c.before.kind_asked.ensures) ∙ sym c.is_checked.ensures
 
 returns : tie.Need-returns
 returns c =
     let a = (start c.before).args in
-    sym (size-checked a.header.now a.body.now a.response.now (checked c.before ∙ c.if1.true))
+    sym (size_checked a.header.now a.body.now a.response.now (checked c.before ∙ c.if1.true))
 
 returns-2 : tie.Need-returns-2
 returns-2 c =
     let a = (start c.before).args in
-    sym (size-plain a.header.now a.body.now a.response.now (checked c.before ∙ c.if1.false))
+    sym (size_plain a.header.now a.body.now a.response.now (checked c.before ∙ c.if1.false))
 
 pub frame-size-spec : {M : Type 1} → statement M
 frame-size-spec =

@@ -3,8 +3,8 @@ use mathlib.Core.Path.{refl}
 use mathlib.Core.List.{◌++◌}
 use native.Mathlib.Omega.{arith}
 use lib.ListN.{length-append}
-use Rattle.frame.specs.CheckByte.{checkByte}
-use Rattle.frame.proofs.seal.Laws.{length-sealed, sealed-behind}
+use Rattle.frame.specs.check_byte.{check_byte}
+use Rattle.frame.proofs.seal.Laws.{length_sealed, sealed_behind}
 use borrow.Author.Rules.{rules}
 use Rattle.frame.proofs.writer.put_first.Statement.{statement}
 use Rattle.frame.proofs.writer.put_first.Tie as tie
@@ -29,8 +29,8 @@ returns c =
     let both = a.header.now ++ a.body.now in
     let size = length-append a.header.now a.body.now in
     let told = put.put_both.ensures in (
-      sealed-behind checkByte a.out.now 0 both told.0 c.before.before.seal.ensures refl (omega (arith, told.1)) (omega (arith, size)),
-      omega (arith, told.1, length-sealed checkByte both),
+      sealed_behind check_byte a.out.now 0 both told.0 c.before.before.seal.ensures refl (omega (arith, told.1)) (omega (arith, size)),
+      omega (arith, told.1, length_sealed check_byte both),
     )
 
 pub put-first-spec : {M : Type 1} → statement M

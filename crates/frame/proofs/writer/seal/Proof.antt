@@ -31,7 +31,7 @@ returns c =
     let s = c.before.before.before.before in
     let out = s.args.out.now in
     let end = s.args.end in
-    stored out end c.check-byte.result s.requires.1 ∙ ap (λ (b : ℕ). placed out end (b ∷ [])) c.check-byte.ensures
+    stored out end c.check_byte.result s.requires.1 ∙ ap (λ (b : ℕ). placed out end (b ∷ [])) c.check_byte.ensures
 
 pub seal-spec : {M : Type 1} → statement M
 seal-spec =

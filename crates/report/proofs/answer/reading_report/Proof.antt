@@ -12,42 +12,42 @@ use Rattle.frame.specs.Refusal as frame
 use Rattle.catalogue.specs.Supplement.{Accepted}
 use Rattle.catalogue.specs.Lookup.{catalogue}
 use Rattle.catalogue.proofs.Accepted.{good}
-use Rattle.report.specs.Report.{reportFrom}
-use Rattle.report.specs.Rows.{reportBytes}
+use Rattle.report.specs.report.{report_from}
+use Rattle.report.specs.Rows.{report_bytes}
 use Rattle.report.specs.Answer.{refused, fitted}
-use Rattle.report.specs.Contracts.{Cuts, cutAnswer, sizesAnswer}
-use Rattle.report.proofs.answer.Laws.{settled, sizes-supplement-refused, sizes-supplement-accepted}
+use Rattle.report.specs.Inner.{Cuts, cut_answer, sizes_answer}
+use Rattle.report.proofs.answer.Laws.{settled, sizes_supplement_refused, sizes_supplement_accepted}
 use borrow.Author.Rules.{rules}
 use Rattle.report.proofs.answer.reading_report.Statement.{statement}
 use Rattle.report.proofs.answer.reading_report.Tie as tie
 
 returns : tie.Need-returns
 returns c =
-    let checked = c.before.before.check-supplement in
+    let checked = c.before.before.check_supplement in
     let a = c.before.before.before.before.before.before.args in
     settled (refused checked.result.refusal checked.result.place) _ a.out.now
     ((λ i. refused (checked.ensures i).refusal (checked.ensures i).place)
-    ∙ sym (sizes-supplement-refused a.supplement.now a.run.now (length a.out.now) (reading_of a.reading)
+    ∙ sym (sizes_supplement_refused a.supplement.now a.run.now (length a.out.now) (reading_of a.reading)
     (λ e. c.if1.true (ap (λ x. x.refusal) checked.ensures ∙ e))))
 
 accepted-there : (c : tie.Else1) → Accepted c.before.before.before.before.before.before.args.supplement.now
-accepted-there c = ap (λ x. x.refusal) (sym c.before.before.check-supplement.ensures) ∙ c.if1.false
+accepted-there c = ap (λ x. x.refusal) (sym c.before.before.check_supplement.ensures) ∙ c.if1.false
 
 -- The answer for a reading, where the supplement is accepted.
 answered :
     (c : tie.Else1) (q : Outcome Sizes)
     → (let a = c.before.before.before.before.before.before.args in
     reading_of a.reading ≡ q
-    → cutAnswer a.supplement.now a.run.now q (length a.out.now)
-    ≡ sizesAnswer a.supplement.now a.run.now (reading_of a.reading) (length a.out.now))
+    → cut_answer a.supplement.now a.run.now q (length a.out.now)
+    ≡ sizes_answer a.supplement.now a.run.now (reading_of a.reading) (length a.out.now))
 answered c q e =
     let a = c.before.before.before.before.before.before.args in
     let room = length a.out.now in
-    sym (sizes-supplement-accepted a.supplement.now a.run.now room q (accepted-there c))
-    ∙ ap (λ (o : Outcome Sizes). sizesAnswer a.supplement.now a.run.now o room) (sym e)
+    sym (sizes_supplement_accepted a.supplement.now a.run.now room q (accepted-there c))
+    ∙ ap (λ (o : Outcome Sizes). sizes_answer a.supplement.now a.run.now o room) (sym e)
 
 returns-2 : tie.Need-returns-2
-unfolding cutAnswer
+unfolding cut_answer
 returns-2 c =
     let passed = c.before.before.before in
     let a = passed.before.before.before.before.before.before.args in
@@ -88,17 +88,17 @@ parts-report-requires c κs =
     (good _ (accepted-there at.before.before.before), simp (length-take, length-drop) (omega (arith, cuts at)))
 
 returns-3 : tie.Need-returns-3
-unfolding cutAnswer
+unfolding cut_answer
 returns-3 c =
     let at = c.before.before.before.before.before.before in
     let a = (start at).args in
     let h = (given at).header in
     let body = add-sub_cancel_left h (given at).body in
     let rows : ℕ → List ℕ =
-    (λ n. reportBytes (reportFrom (catalogue a.supplement.now) (take h (run at)) (take n (drop h (run at))) (given at).kind)) in
+    (λ n. report_bytes (report_from (catalogue a.supplement.now) (take h (run at)) (take n (drop h (run at))) (given at).kind)) in
     let same = ap (λ (n : ℕ). fitted (length a.out.now) (rows n)) body in
     let e = settled _ _ a.out.now (same ∙ answered at.before.before.before (accepted (given at)) (told at)) in
-    (c.before.before.parts-report.ensures.0 ∙ e.0, c.before.before.parts-report.ensures.1 ∙ e.1)
+    (c.before.before.parts_report.ensures.0 ∙ e.0, c.before.before.parts_report.ensures.1 ∙ e.1)
 
 pub reading-report-spec : {M : Type 1} → statement M
 reading-report-spec =

@@ -5,7 +5,7 @@ use native.Mathlib.Omega.{arith}
 use borrow.Author.Rules.{rules}
 use borrow.Author.Tests.{leb-true}
 use Rattle.report.specs.Bits.{cut}
-use Rattle.report.proofs.bits.Laws.{bit-lt, cut-next, cut_below, cut-byte}
+use Rattle.report.proofs.bits.Laws.{bit_lt, cut_next, cut_below, cut_byte}
 use Rattle.report.proofs.bits.cut_bits.Statement.{statement}
 use Rattle.report.proofs.bits.cut_bits.Tie as tie
 
@@ -38,7 +38,7 @@ loop-again c =
     let a = c.before.before.before.before.before.before.args in
     let w = c.before.before.before.before.loop.w in
     let told = c.byte_at.ensures in
-    (omega (arith, leb-true 8 (a.width - w) c.before.if2.true), omega (arith, told, cut-byte a.s.now a.at w (omega arith) (omega (arith, told))))
+    (omega (arith, leb-true 8 (a.width - w) c.before.if2.true), omega (arith, told, cut_byte a.s.now a.at w (omega arith) (omega (arith, told))))
 
 mul-raw-2 : tie.Need-overflow-mul-raw-2 invariant-loop decreases-loop
 mul-raw-2 c =
@@ -50,13 +50,13 @@ add-raw-2 : tie.Need-overflow-add-raw-2 invariant-loop decreases-loop
 add-raw-2 c =
     let a = c.before.before.before.before.before.args in
     let w = c.before.before.before.loop.w in
-    omega (arith, cut_below a.s.now a.at w 31 (omega arith), bit-lt a.s.now (a.at + w))
+    omega (arith, cut_below a.s.now a.at w 31 (omega arith), bit_lt a.s.now (a.at + w))
 
 loop-again-2 : tie.Need-loop-preserved-2 invariant-loop decreases-loop
 loop-again-2 c =
     let a = c.before.before.before.before.before.args in
     let w = c.before.before.before.loop.w in
-    omega (arith, cut-next a.s.now a.at w)
+    omega (arith, cut_next a.s.now a.at w)
 
 returns : tie.Need-returns invariant-loop decreases-loop
 returns c =

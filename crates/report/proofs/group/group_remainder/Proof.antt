@@ -5,7 +5,7 @@ use Rattle.report.proofs.group.group_remainder.Statement.{statement}
 use Rattle.report.proofs.group.group_remainder.Tie as tie
 
 returns : tie.Need-returns
-returns c = rw c.before.if1.true c.remainder-line.ensures
+returns c = rw c.before.if1.true c.remainder_line.ensures
 
 returns-2 : tie.Need-returns-2
 returns-2 c = sym (rw c.if1.false)

@@ -2,8 +2,8 @@
 use borrow.Author.Rules.{rules}
 use mathlib.Core.Path.{sym, ap, subst}
 use Prim.Native.Nat.{◌≤◌}
-use Rattle.report.specs.Report.{remainderAt}
-use Rattle.report.specs.Contracts.{Inside}
+use Rattle.report.specs.report.{remainder_at}
+use Rattle.report.specs.Inner.{Inside}
 use Rattle.report.proofs.group.remainder_line.Statement.{statement}
 use Rattle.report.proofs.group.remainder_line.Tie as tie
 
@@ -16,16 +16,16 @@ sub-t5 : tie.Need-overflow-sub-t5
 sub-t5 c = inside c
 
 returns : tie.Need-returns
-unfolding remainderAt
-returns c = ap (remainderAt c.before.before.before.args.to) (sym c.before.place.given.1)
+unfolding remainder_at
+returns c = ap (remainder_at c.before.before.before.args.to) (sym c.before.place.given.1)
 
 returns-2 : tie.Need-returns-2
-unfolding remainderAt
-returns-2 c = ap (remainderAt c.before.before.args.to) (sym c.enum_told.given.1)
+unfolding remainder_at
+returns-2 c = ap (remainder_at c.before.before.args.to) (sym c.enum_told.given.1)
 
 returns-3 : tie.Need-returns-3
-unfolding remainderAt
-returns-3 c = ap (remainderAt c.before.before.args.to) (sym c.enum-told2.given.1)
+unfolding remainder_at
+returns-3 c = ap (remainder_at c.before.before.args.to) (sym c.enum-told2.given.1)
 
 pub remainder-line-spec : {M : Type 1} → statement M
 remainder-line-spec =

@@ -3,12 +3,12 @@ use mathlib.Core.Path.{◌≡◌, sym, subst}
 use Prim.Native.Nat.{ℕ, ◌+◌, ◌-◌, ◌≤◌, ◌<◌}
 use native.Mathlib.Omega.{arith}
 use lib.ListN.{length}
-use Rattle.catalogue.specs.Supplement.{recordsOf}
+use Rattle.catalogue.specs.Supplement.{records_of}
 use Rattle.catalogue.specs.Lookup.{catalogue}
-use Rattle.report.specs.Contracts.{MostBits, MostLines, Lying, first_lines, linesIn}
-use Rattle.report.proofs.spots.Laws.{good-wide, spot-lying, lying-wider}
-use Rattle.report.proofs.tally.Laws.{tally-small}
-use Rattle.report.proofs.group.Laws.{Filled, none_filled, one-filled, all-filled}
+use Rattle.report.specs.Inner.{most_bits, most_lines, Lying, first_lines, lines_in}
+use Rattle.report.proofs.spots.Laws.{good_wide, spot_lying, lying_wider}
+use Rattle.report.proofs.tally.Laws.{tally_small}
+use Rattle.report.proofs.group.Laws.{Filled, none_filled, one_filled, all_filled}
 use Rattle.report.proofs.group.with_group.Statement.{statement}
 use Rattle.report.proofs.group.with_group.Tie as tie
 
@@ -23,7 +23,7 @@ loop-holds : tie.Need-loop-init invariant-loop decreases-loop
 loop-holds c =
     let start = c.before.before.before.before.before in
     let a = start.args in (
-      none_filled (catalogue a.s.now) a.bytes.now a.from a.to (linesIn a.report) a.layout.prns a.report
+      none_filled (catalogue a.s.now) a.bytes.now a.from a.to (lines_in a.report) a.layout.prns a.report
           start.requires.1.1.0
           start.requires.0.1,
       omega arith,
@@ -41,7 +41,7 @@ module _ (c : tie.In-loop invariant-loop decreases-loop) where
   sixteen = start.pre.1.0.1
 
   -- one line more has its place in the array
-  room : start.args.report.count + c.before.loop.i < MostLines
+  room : start.args.report.count + c.before.loop.i < most_lines
   room = omega (arith, start.pre.1.1.1, c.loop-test.true)
 
 mul-spot-of : tie.Need-overflow-mul-spot-of invariant-loop decreases-loop
@@ -57,13 +57,13 @@ spot-of-requires c κs = (omega (arith, (start c).requires.0.2), c.before.loop.i
 lies : (c : tie.After-spot-of invariant-loop decreases-loop) → Lying (start c.before).args.to c.spot_of_lem.result
 lies c =
     let begin = start c.before in
-    let rs = recordsOf begin.args.s.now in
-    subst (Lying begin.args.to) (sym c.spot_of_lem.ensures) (spot-lying _ (good-wide rs begin.pre.0.0) begin.args.to _ _)
+    let rs = records_of begin.args.s.now in
+    subst (Lying begin.args.to) (sym c.spot_of_lem.ensures) (spot_lying _ (good_wide rs begin.pre.0.0) begin.args.to _ _)
 
-small : (c : tie.After-spot-of invariant-loop decreases-loop) → Lying MostBits c.spot_of_lem.result
+small : (c : tie.After-spot-of invariant-loop decreases-loop) → Lying most_bits c.spot_of_lem.result
 small c =
     let begin = start c.before in
-    lying-wider begin.args.to MostBits c.spot_of_lem.result (omega (arith, begin.pre.0.2)) (lies c)
+    lying_wider begin.args.to most_bits c.spot_of_lem.result (omega (arith, begin.pre.0.2)) (lies c)
 
 item-line-requires : tie.Need-item-line-requires invariant-loop decreases-loop
 item-line-requires c κs = ((start c.before).pre.0.0, small c)
@@ -80,7 +80,7 @@ array-set-from-held c = omega (arith, room c.before.before, c.before.before.befo
 tallied-requires : tie.Need-tallied-requires invariant-loop decreases-loop
 tallied-requires c κs =
     let shows = c.before.before.before.loop.invariant.0.shows in
-    tally-small _ shows.tally (omega (arith, shows.count, room c.before.before))
+    tally_small _ shows.tally (omega (arith, shows.count, room c.before.before))
 
 place-behind-requires : tie.Need-place-behind-requires invariant-loop decreases-loop
 place-behind-requires c κs = small c.before.before
@@ -97,8 +97,8 @@ loop-again c =
     let loop = turn.before.loop in
     let a = (start turn).args in
     let spot = c.before.before.before.spot_of_lem in
-    let line = c.before.before.item-line in (
-      one-filled (catalogue a.s.now) a.bytes.now a.from a.to (linesIn a.report) a.layout.prns a.report.count loop.held
+    let line = c.before.before.item_line in (
+      one_filled (catalogue a.s.now) a.bytes.now a.from a.to (lines_in a.report) a.layout.prns a.report.count loop.held
           loop.tally
           loop.place
           loop.i
@@ -106,12 +106,12 @@ loop-again c =
           (within turn)
           spot.result
           line.result
-          c.place-behind.result
+          c.place_behind.result
           c.before.tallied.result
           spot.ensures
           (lies c.before.before.before)
           line.ensures
-          c.place-behind.ensures
+          c.place_behind.ensures
           c.before.tallied.ensures
           (room turn),
       omega (arith, turn.loop-test.true),
@@ -130,7 +130,7 @@ module _ (c : tie.After-loop invariant-loop decreases-loop) where
   After i =
       let a = began.args in
       let loop = c.before.loop in
-      Filled (catalogue a.s.now) a.bytes.now a.from a.to (linesIn a.report) a.layout.prns a.report.count
+      Filled (catalogue a.s.now) a.bytes.now a.from a.to (lines_in a.report) a.layout.prns a.report.count
       loop.held loop.tally loop.place i
 
   done : After began.args.layout.count
@@ -139,7 +139,7 @@ module _ (c : tie.After-loop invariant-loop decreases-loop) where
       let all : loop.i ≡ began.args.layout.count = omega (arith, loop.invariant.1, c.loop-test.false) in
       subst After all loop.invariant.0
 
-  last : began.args.report.count + began.args.layout.count < MostLines
+  last : began.args.report.count + began.args.layout.count < most_lines
   last = began.pre.1.1.1
 
 add-held-2 : tie.Need-overflow-add-held-2 invariant-loop decreases-loop
@@ -160,15 +160,15 @@ add-t28 c = omega (arith, last c.before)
 tallied-requires-2 : tie.Need-tallied-requires-2 invariant-loop decreases-loop
 tallied-requires-2 c κs =
     let shows = (done c.before).shows in
-    tally-small _ shows.tally (omega (arith, shows.count, last c.before))
+    tally_small _ shows.tally (omega (arith, shows.count, last c.before))
 
 returns : tie.Need-returns invariant-loop decreases-loop
 returns c =
     let end = c.before.before in
     let a = (began end).args in
     let loop = end.before.loop in
-    let rest = c.before.group-remainder in
-    all-filled (catalogue a.s.now) a.bytes.now a.from a.to (linesIn a.report) a.layout.prns a.report.count
+    let rest = c.before.group_remainder in
+    all_filled (catalogue a.s.now) a.bytes.now a.from a.to (lines_in a.report) a.layout.prns a.report.count
     loop.held loop.tally loop.place a.layout.count (done end) a.layout.found
     rest.result c.tallied2.result (began end).requires.1.0.2 rest.ensures c.tallied2.ensures (last end)
 

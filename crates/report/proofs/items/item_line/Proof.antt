@@ -4,13 +4,13 @@ use mathlib.Core.Path.{sym, ap, ◌∙◌, subst}
 use native.Mathlib.Omega.{arith}
 use Rattle.catalogue.specs.Lookup.{catalogue}
 use Rattle.report.specs.declared.spots.Spot.TheVariants.{Lies}
-use Rattle.report.specs.Items.{itemLine}
-use Rattle.report.specs.Contracts.{MostBits, Lying}
+use Rattle.report.specs.Items.{item_line}
+use Rattle.report.specs.Inner.{most_bits, Lying}
 use Rattle.report.proofs.items.item_line.Statement.{statement}
 use Rattle.report.proofs.items.item_line.Tie as tie
 
-lying : (c : tie.After-known-told) → Lying MostBits (Lies c.before.spot.given.0.0 c.before.spot.given.0.1.0)
-lying c = subst (Lying MostBits) c.before.spot.given.1 c.before.before.before.before.before.requires.1
+lying : (c : tie.After-known-told) → Lying most_bits (Lies c.before.spot.given.0.0 c.before.spot.given.0.1.0)
+lying c = subst (Lying most_bits) c.before.spot.given.1 c.before.before.before.before.before.requires.1
 
 slot-line-requires : tie.Need-slot-line-requires
 slot-line-requires c κs =
@@ -18,34 +18,34 @@ slot-line-requires c κs =
     (c.before.before.before.before.before.requires.0, l.0, omega (arith, l.0, l.1))
 
 returns : tie.Need-returns
-unfolding itemLine
+unfolding item_line
 returns c =
     let a = c.before.before.before.before.args in
-    ap (itemLine (catalogue a.s.now).slot a.bytes.now) (sym c.enum_told.given.1)
+    ap (item_line (catalogue a.s.now).slot a.bytes.now) (sym c.enum_told.given.1)
 
 returns-2 : tie.Need-returns-2
-unfolding itemLine
+unfolding item_line
 returns-2 c =
     let a = c.before.before.before.before.args in
-    ap (itemLine (catalogue a.s.now).slot a.bytes.now) (sym c.enum-told2.given.1)
+    ap (item_line (catalogue a.s.now).slot a.bytes.now) (sym c.enum-told2.given.1)
 
 returns-3 : tie.Need-returns-3
-unfolding itemLine
+unfolding item_line
 returns-3 c =
     let a = c.before.before.before.before.args in
-    ap (itemLine (catalogue a.s.now).slot a.bytes.now) (sym c.enum-told3.given.1)
+    ap (item_line (catalogue a.s.now).slot a.bytes.now) (sym c.enum-told3.given.1)
 
 returns-4 : tie.Need-returns-4
-unfolding itemLine
+unfolding item_line
 returns-4 c =
     let a = c.before.before.before.before.args in
-    ap (itemLine (catalogue a.s.now).slot a.bytes.now) (sym c.enum-told4.given.1)
+    ap (item_line (catalogue a.s.now).slot a.bytes.now) (sym c.enum-told4.given.1)
 
 returns-5 : tie.Need-returns-5
-unfolding itemLine
+unfolding item_line
 returns-5 c =
     let a = c.before.before.before.before.before.before.args in
-    c.slot-line.ensures ∙ ap (itemLine (catalogue a.s.now).slot a.bytes.now) (sym c.before.before.spot.given.1)
+    c.slot_line.ensures ∙ ap (item_line (catalogue a.s.now).slot a.bytes.now) (sym c.before.before.spot.given.1)
 
 pub item-line-spec : {M : Type 1} → statement M
 item-line-spec =

@@ -4,10 +4,10 @@ use mathlib.Core.Path.{◌∙◌}
 use mathlib.Core.List.{[], ◌∷◌}
 use native.Mathlib.Omega.{arith}
 use lib.ListN.{length}
-use Rattle.catalogue.specs.Kind.{LAYOUT}
-use Rattle.catalogue.specs.Record.{recordWith}
-use Rattle.catalogue.specs.Supplement.{recordsOf}
-use Rattle.catalogue.specs.Lookup.{layoutFound}
+use Rattle.catalogue.specs.Kind.{layout_kind}
+use Rattle.catalogue.specs.Record.{record_with}
+use Rattle.catalogue.specs.Supplement.{records_of}
+use Rattle.catalogue.specs.Lookup.{layout_found}
 use Rattle.report.proofs.message.sought.Statement.{statement}
 use Rattle.report.proofs.message.sought.Tie as tie
 
@@ -18,12 +18,12 @@ returns : tie.Need-returns
 returns c =
     let at = c.before.before.before in
     let a = at.before.before.before.args in
-    c.find-layout.ensures
+    c.find_layout.ensures
     ∙ (λ i.
-    layoutFound
-    (recordWith
-    (LAYOUT ∷ a.first ∷ a.target ∷ length a.selector.now ∷ at.byte_at.ensures i ∷ c.before.before.byte-at2.ensures i ∷ [])
-    (recordsOf a.s.now)))
+    layout_found
+    (record_with
+    (layout_kind ∷ a.first ∷ a.target ∷ length a.selector.now ∷ at.byte_at.ensures i ∷ c.before.before.byte-at2.ensures i ∷ [])
+    (records_of a.s.now)))
 
 pub sought-spec : {M : Type 1} → statement M
 sought-spec =

@@ -5,7 +5,7 @@ use Prim.Native.Nat.{◌+◌}
 use native.Mathlib.Omega.{arith}
 use lib.ListN.{set, length-set}
 use Rattle.frame.proofs.bytes.Placed.{stored}
-use Rattle.report.proofs.row.Laws.{kind-behind}
+use Rattle.report.proofs.row.Laws.{kind_behind}
 use borrow.Author.Rules.{rules}
 use Rattle.report.proofs.row.put_byte.Statement.{statement}
 use Rattle.report.proofs.row.put_byte.Tie as tie
@@ -15,7 +15,7 @@ slice-write-out-2 c = simp length-set (omega arith)
 
 returns : tie.Need-returns
 returns c = (
-  kind-behind c.args.out.now c.args.at c.args.kind (c.args.b ∷ [])
+  kind_behind c.args.out.now c.args.at c.args.kind (c.args.b ∷ [])
       (stored (set c.args.out.now c.args.at c.args.kind) (c.args.at + 1) c.args.b (simp length-set (omega arith)))
       (omega arith),
   refl,

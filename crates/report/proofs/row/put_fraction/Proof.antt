@@ -1,14 +1,14 @@
 -- The whole number and the divisor are placed right behind the double.
 use borrow.Author.Rules.{rules}
 use mathlib.Core.Path.{refl, ap, ◌∙◌}
-use Rattle.report.specs.Rows.{twosComplement}
-use Rattle.report.proofs.row.Laws.{whole-reread, parts-behind}
-use Rattle.report.proofs.scaling.Finite.{fraction-number}
+use Rattle.report.specs.Rows.{twos_complement}
+use Rattle.report.proofs.row.Laws.{whole_reread, parts_behind}
+use Rattle.report.proofs.scaling.Finite.{fraction_number}
 use Rattle.report.proofs.row.put_fraction.Statement.{statement}
 use Rattle.report.proofs.row.put_fraction.Tie as tie
 
 float-to-bits-put-body : tie.Need-float-to-bits-put-body
-float-to-bits-put-body c = rw (fraction-number c.before.requires.0) tt
+float-to-bits-put-body c = rw (fraction_number c.before.requires.0) tt
 
 returns : tie.Need-returns
 returns c =
@@ -16,8 +16,8 @@ returns c =
     let first = whole.before.before.before.before.before in
     let start = first.before.before.before in
     let a = start.args in
-    let bits = whole.before.before.twos-complement.ensures ∙ ap twosComplement (whole-reread start.requires.0) in (
-      parts-behind a.out.now a.at a.value a.above a.divisor first.put-body.ensures bits whole.put-number.ensures
+    let bits = whole.before.before.twos_complement.ensures ∙ ap twos_complement (whole_reread start.requires.0) in (
+      parts_behind a.out.now a.at a.value a.above a.divisor first.put_body.ensures bits whole.put_number.ensures
           c.before.before.put-number2.ensures start.requires.1,
       refl,
     )

@@ -1,6 +1,6 @@
 -- The bytes are counted down: each turn stores one right before those that are written.
 use native.Mathlib.Omega.{arith}
-use Rattle.report.proofs.row.Laws.{Counted, none-counted, one_less, length-counted, all-counted}
+use Rattle.report.proofs.row.Laws.{Counted, none_counted, one_less, length_counted, all_counted}
 use Rattle.report.proofs.row.put_number.Statement.{statement}
 use Rattle.report.proofs.row.put_number.Tie as tie
 
@@ -11,7 +11,7 @@ abbrev decreases-loop : tie.decreases-loop
 decreases-loop x n out₀ at left₀ rest₀ out left rest = left
 
 loop-holds : tie.Need-loop-init invariant-loop decreases-loop
-loop-holds c = none-counted c.args.x c.args.n c.args.at c.args.out.now c.requires
+loop-holds c = none_counted c.args.x c.args.n c.args.at c.args.out.now c.requires
 
 sub-left : tie.Need-overflow-sub-left invariant-loop decreases-loop
 sub-left c = omega arith
@@ -27,7 +27,7 @@ slice-write-out c =
     let start = c.before.before in
     let a = start.args in
     let loop = c.before.loop in
-    let kept = length-counted a.x a.n a.at a.out.now start.requires loop.out loop.left loop.rest loop.invariant in
+    let kept = length_counted a.x a.n a.at a.out.now start.requires loop.out loop.left loop.rest loop.invariant in
     omega (arith, kept, loop.invariant.bounded)
 
 loop-less : tie.Need-loop-smaller invariant-loop decreases-loop
@@ -45,14 +45,14 @@ same_length c =
     let start = c.before.before in
     let a = start.args in
     let loop = c.before.loop in
-    length-counted a.x a.n a.at a.out.now start.requires loop.out loop.left loop.rest loop.invariant
+    length_counted a.x a.n a.at a.out.now start.requires loop.out loop.left loop.rest loop.invariant
 
 returns : tie.Need-returns invariant-loop decreases-loop
 returns c =
     let start = c.before.before in
     let a = start.args in
     let loop = c.before.loop in
-    all-counted a.x a.n a.at a.out.now start.requires loop.out loop.left loop.rest c.loop-test.false loop.invariant
+    all_counted a.x a.n a.at a.out.now start.requires loop.out loop.left loop.rest c.loop-test.false loop.invariant
 
 pub put-number-spec : {M : Type 1} → statement M
 put-number-spec =

@@ -8,7 +8,7 @@ use lib.Signed.{mag, non_neg, le_z, nat_abs-le}
 use mir.Syntax.{w64}
 use mir.Val.{SFits, Fits, to_z, of_z}
 use mir.ValLaws.{to_z-of_z}
-use Rattle.report.specs.Rows.{twosComplement}
+use Rattle.report.specs.Rows.{twos_complement}
 use Rattle.report.proofs.row.Laws.{upright, mirrored}
 use Rattle.report.proofs.scaling.Laws.{reread}
 use Rattle.report.proofs.row.twos_complement.Statement.{statement}
@@ -22,11 +22,11 @@ Castable z = T (non_neg z) × Fits w64 (nat_abs z)
 same : (c : tie.Start) → to_z w64 (of_z w64 c.args.n) ≡ c.args.n
 same c = to_z-of_z w64 c.args.n c.ranges.n
 
-up : (c : tie.Then1) → let z = c.before.args.n in T (non_neg z) × (nat_abs z ≡ twosComplement z)
+up : (c : tie.Then1) → let z = c.before.args.n in T (non_neg z) × (nat_abs z ≡ twos_complement z)
 up c = upright c.before.args.n (sym (ap (le_z (pos 0)) (same c.before)) ∙ c.if1.true)
 
 module _ (c : tie.Else1) where
-  below : let z = c.before.args.n in (negsuc 0 -ℤ z ≡ pos (mag z)) × (twosComplement z ≡ 2 ^ 64 - 1 - mag z)
+  below : let z = c.before.args.n in (negsuc 0 -ℤ z ≡ pos (mag z)) × (twos_complement z ≡ 2 ^ 64 - 1 - mag z)
   below = mirrored c.before.args.n (sym (ap (le_z (pos 0)) (same c.before)) ∙ c.if1.false)
 
   mirror : negsuc 0 -ℤ to_z w64 (of_z w64 c.before.args.n) ≡ pos (mag c.before.args.n)

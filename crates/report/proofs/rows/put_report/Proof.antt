@@ -7,11 +7,11 @@ use lib.ListN.{length}
 use borrow.Author.Rules.{rules}
 use Rattle.frame.specs.Bytes.{placed}
 use Rattle.frame.proofs.bytes.Placed.{joined}
-use Rattle.report.specs.Rows.{rows_of, verdictRow}
-use Rattle.report.specs.Contracts.{linesIn}
-use Rattle.report.proofs.verdict.Laws.{verdict-told}
-use Rattle.report.proofs.lines.Laws.{shows-most}
-use Rattle.report.proofs.rows.Laws.{holds-line, Laid, none-laid, length-laid, room_next, one-laid, all_laid}
+use Rattle.report.specs.Rows.{rows_of, verdict_row}
+use Rattle.report.specs.Inner.{lines_in}
+use Rattle.report.proofs.verdict.Laws.{verdict_told}
+use Rattle.report.proofs.lines.Laws.{shows_most}
+use Rattle.report.proofs.rows.Laws.{holds_line, Laid, none_laid, length_laid, room_next, one_laid, all_laid}
 use Rattle.report.proofs.rows.put_report.Statement.{statement}
 use Rattle.report.proofs.rows.put_report.Tie as tie
 
@@ -23,13 +23,13 @@ decreases-loop report out₀ held count end₀ i₀ out end i = count - i
 
 module _ (c : tie.Start invariant-loop decreases-loop) where
   within : c.args.report.count ≤ length c.args.report.held
-  within = omega (arith, c.requires.0.room, shows-most c.args.report (linesIn c.args.report) c.requires.0)
+  within = omega (arith, c.requires.0.room, shows_most c.args.report (lines_in c.args.report) c.requires.0)
 
-  fits : length (rows_of (linesIn c.args.report)) ≤ length c.args.out.now
+  fits : length (rows_of (lines_in c.args.report)) ≤ length c.args.out.now
   fits = omega (arith, c.requires.2)
 
 loop-holds : tie.Need-loop-init invariant-loop decreases-loop
-loop-holds c = let a = c.before.before.args in none-laid a.report.held a.report.count a.out.now
+loop-holds c = let a = c.before.before.args in none_laid a.report.held a.report.count a.out.now
 
 mul-h : tie.Need-overflow-mul-h invariant-loop decreases-loop
 mul-h c =
@@ -47,7 +47,7 @@ put-row-requires c κs =
     let report = start.args.report in
     let loop = c.before.before.before.loop in
     let more = c.before.before.loop-test.true in (
-      holds-line report.held report.count loop.i more (within start) start.requires.1,
+      holds_line report.held report.count loop.i more (within start) start.requires.1,
       room_next report.held report.count start.args.out.now (within start) (fits start) loop.out loop.end loop.i more loop.invariant,
     )
 
@@ -65,16 +65,16 @@ loop-again c =
     let loop = turn.before.loop in
     let start = turn.before.before.before.before in
     let report = start.args.report in
-    one-laid report.held report.count start.args.out.now (within start) (fits start) loop.out loop.end loop.i
+    one_laid report.held report.count start.args.out.now (within start) (fits start) loop.out loop.end loop.i
     turn.loop-test.true
     loop.invariant
-    c.before.before.put-row.ensures
+    c.before.before.put_row.ensures
 
 -- all lines' rows stand there
 laid :
     (c : tie.After-loop invariant-loop decreases-loop)
     → let a = c.before.before.before.before.args in
-    let rows = rows_of (linesIn a.report) in
+    let rows = rows_of (lines_in a.report) in
     (c.before.loop.out ≡ placed a.out.now 0 rows) × (c.before.loop.end ≡ length rows)
 laid c =
     let start = c.before.before.before.before in
@@ -89,7 +89,7 @@ kept c =
     let start = c.before.before.before.before in
     let report = start.args.report in
     let loop = c.before.loop in
-    length-laid report.held report.count start.args.out.now (within start) (fits start) loop.out loop.end loop.i loop.invariant
+    length_laid report.held report.count start.args.out.now (within start) (fits start) loop.out loop.end loop.i loop.invariant
 
 put-byte-requires : tie.Need-put-byte-requires invariant-loop decreases-loop
 put-byte-requires c κs =
@@ -105,10 +105,10 @@ returns c =
     let start = end.before.before.before.before in
     let report = start.args.report in
     let out = start.args.out.now in
-    let rows : List ℕ = rows_of (linesIn report) in
+    let rows : List ℕ = rows_of (lines_in report) in
     joined out 0 rows _ (laid end).0 c.before.before.put_byte.ensures.0 (omega (arith, (laid end).1)) (omega (arith, fits start))
-    ∙ ap (λ (v : ℕ). placed out 0 (rows ++ verdictRow v))
-    (c.before.before.before.before.verdict-of.ensures ∙ verdict-told (linesIn report) start.requires.0.tally)
+    ∙ ap (λ (v : ℕ). placed out 0 (rows ++ verdict_row v))
+    (c.before.before.before.before.verdict_of.ensures ∙ verdict_told (lines_in report) start.requires.0.tally)
 
 pub put-report-spec : {M : Type 1} → statement M
 put-report-spec =

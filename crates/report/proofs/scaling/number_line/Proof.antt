@@ -7,27 +7,27 @@ use lib.IntN.{ℤ}
 use mir.Syntax.{w64}
 use mir.Val.{to_z, of_z}
 use Rattle.report.specs.declared.line.Line.TheVariants.{Number}
-use Rattle.report.specs.Scaling.{above, quotient, numberLine}
-use Rattle.report.proofs.scaling.Laws.{result-is, above-small, in-float}
+use Rattle.report.specs.Scaling.{above, quotient, number_line}
+use Rattle.report.proofs.scaling.Laws.{result_is, above_small, in_float_lem}
 use borrow.Author.Rules.{rules}
 use Rattle.report.proofs.scaling.number_line.Statement.{statement}
 use Rattle.report.proofs.scaling.number_line.Tie as tie
 
 whole :
     (c : tie.After-above-line)
-    → to_z w64 (of_z w64 c.above-line.result) ≡ above c.before.args.slot c.before.args.raw
-whole c = result-is c.above-line.type-inv c.above-line.ensures
+    → to_z w64 (of_z w64 c.above_line.result) ≡ above c.before.args.slot c.before.args.raw
+whole c = result_is c.above_line.type-inv c.above_line.ensures
 
 int-to-float-value : tie.Need-int-to-float-value
 int-to-float-value c =
     let start = c.before.before in
     let a = start.args in
     let p = start.requires in
-    let small = above-small a.slot a.raw p.0 p.1 p.2 (omega arith) (omega arith) in
-    subst (λ (z : ℤ). T (in_float binary64 z)) (sym (whole c.before)) (in-float (above a.slot a.raw) (omega (arith, small)))
+    let small = above_small a.slot a.raw p.0 p.1 p.2 (omega arith) (omega arith) in
+    subst (λ (z : ℤ). T (in_float binary64 z)) (sym (whole c.before)) (in_float_lem (above a.slot a.raw) (omega (arith, small)))
 
 returns : tie.Need-returns
-unfolding numberLine quotient
+unfolding number_line quotient
 returns c =
     let a = c.before.before.before.args in
     λ i. Number (quotient (whole c.before.before i) a.slot.divisor) (whole c.before.before i) a.slot.divisor

@@ -2,7 +2,7 @@
 use mathlib.Core.Path.{sym, ap, ◌∙◌}
 use Prim.Native.Nat.{ℕ, ◌+◌, ◌-◌, ◌^◌}
 use native.Mathlib.Omega.{arith}
-use Rattle.report.proofs.scaling.Laws.{Size, size_of, pattern-filled, pattern-small, pattern-other}
+use Rattle.report.proofs.scaling.Laws.{Size, size_of, pattern_filled, pattern_small, pattern_other}
 use borrow.Author.Rules.{rules}
 use Rattle.report.proofs.scaling.pattern_of.Statement.{statement}
 use Rattle.report.proofs.scaling.pattern_of.Tie as tie
@@ -20,16 +20,16 @@ returns : tie.Need-returns
 returns c =
     let a = c.before.before.args in
     let s = sized c.before in
-    ap (λ (n : ℕ). a.raw + (2 ^ 32 - n)) s.shifted ∙ sym (pattern-filled a.form a.width a.raw c.before.if1.true (omega arith))
+    ap (λ (n : ℕ). a.raw + (2 ^ 32 - n)) s.shifted ∙ sym (pattern_filled a.form a.width a.raw c.before.if1.true (omega arith))
 
 returns-2 : tie.Need-returns-2
 returns-2 c =
     let a = c.before.before.args in
     let s = sized c.before in
-    sym (pattern-small a.form a.width a.raw c.before.if1.true (omega arith))
+    sym (pattern_small a.form a.width a.raw c.before.if1.true (omega arith))
 
 returns-3 : tie.Need-returns-3
-returns-3 c = let a = c.before.args in sym (pattern-other a.form a.width a.raw c.if1.false)
+returns-3 c = let a = c.before.args in sym (pattern_other a.form a.width a.raw c.if1.false)
 
 pub pattern-of-spec : {M : Type 1} → statement M
 pattern-of-spec =

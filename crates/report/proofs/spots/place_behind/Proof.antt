@@ -4,12 +4,12 @@ use mathlib.Core.Path.{sym, ap, subst}
 use native.Mathlib.Omega.{arith}
 use Rattle.report.specs.declared.spots.Spot.TheVariants.{Lies}
 use Rattle.report.specs.Spots.{behind}
-use Rattle.report.specs.Contracts.{MostBits, Lying}
+use Rattle.report.specs.Inner.{most_bits, Lying}
 use Rattle.report.proofs.spots.place_behind.Statement.{statement}
 use Rattle.report.proofs.spots.place_behind.Tie as tie
 
-lying : (c : tie.After-struct-known) → Lying MostBits (Lies c.before.before.spot.given.0.0 c.before.before.spot.given.0.1.0)
-lying c = subst (Lying MostBits) c.before.before.spot.given.1 c.before.before.before.before.requires
+lying : (c : tie.After-struct-known) → Lying most_bits (Lies c.before.before.spot.given.0.0 c.before.before.spot.given.0.1.0)
+lying c = subst (Lying most_bits) c.before.before.spot.given.1 c.before.before.before.before.requires
 
 add-t6 : tie.Need-overflow-add-t6
 add-t6 c = omega (arith, (lying c).1)

@@ -1,13 +1,13 @@
--- By the place, and at a bit by what the catalogue has of the PRN.
+-- By the place, and at a bit by what the catalogue has of the prn_kind.
 use borrow.Author.Rules.{rules}
 use mathlib.Core.Path.{◌≡◌, sym, ap, ◌∙◌, subst}
 use mathlib.Core.Option.{some}
 use Prim.Native.Nat.{◌≤◌}
 use native.Mathlib.Omega.{arith}
-use Rattle.catalogue.specs.Rows.{prnOf}
+use Rattle.catalogue.specs.Rows.{prn_of}
 use Rattle.catalogue.specs.Lookup.{catalogue}
-use Rattle.report.specs.Spots.{spotAt, spot_of}
-use Rattle.report.specs.Contracts.{Inside}
+use Rattle.report.specs.Spots.{spot_at, spot_of}
+use Rattle.report.specs.Inner.{Inside}
 use Rattle.report.proofs.spots.spot_of.Statement.{statement}
 use Rattle.report.proofs.spots.spot_of.Tie as tie
 
@@ -15,7 +15,7 @@ told :
     (c : tie.After-known-told2)
     → let a = c.before.before.before.before.before.before.before.before.args in
     (catalogue a.s.now).prn a.prn ≡ some c.before.found.given.0.0
-told c = sym c.before.before.before.find-prn.ensures ∙ ap prnOf c.before.found.given.1
+told c = sym c.before.before.before.find_prn.ensures ∙ ap prn_of c.before.found.given.1
 
 inside :
     (c : tie.After-known-told2)
@@ -40,20 +40,20 @@ returns-2 c =
     ap (λ p. spot_of (catalogue a.s.now).prn a.to p a.prn) (sym c.enum-told2.given.1)
 
 returns-3 : tie.Need-returns-3
-unfolding spot_of spotAt
+unfolding spot_of spot_at
 returns-3 c =
     let a = c.before.before.before.before.before.before.before.args in
     let place = c.before.before.before.before.place.given in
-    let missing = ap prnOf (sym c.enum-told3.given.1) ∙ c.before.before.find-prn.ensures in
-    ap (λ o. spotAt o a.to place.0.0) missing ∙ ap (λ p. spot_of (catalogue a.s.now).prn a.to p a.prn) (sym place.1)
+    let missing = ap prn_of (sym c.enum-told3.given.1) ∙ c.before.before.find_prn.ensures in
+    ap (λ o. spot_at o a.to place.0.0) missing ∙ ap (λ p. spot_of (catalogue a.s.now).prn a.to p a.prn) (sym place.1)
 
 returns-4 : tie.Need-returns-4
 unfolding spot_of
 returns-4 c =
     let a = c.before.before.before.before.before.before.before.before.before.args in
     let place = c.before.before.before.before.before.before.place.given in
-    c.spot-at.ensures
-    ∙ ap (λ o. spotAt o a.to place.0.0) (sym (told c.before))
+    c.spot_at.ensures
+    ∙ ap (λ o. spot_at o a.to place.0.0) (sym (told c.before))
     ∙ ap (λ p. spot_of (catalogue a.s.now).prn a.to p a.prn) (sym place.1)
 
 pub spot-of-spec : {M : Type 1} → statement M

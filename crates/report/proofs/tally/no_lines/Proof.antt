@@ -2,7 +2,7 @@
 use mathlib.Core.Path.{refl}
 use Rattle.report.specs.Verdict.{any}
 use Rattle.report.specs.Rows.{rows_of}
-use Rattle.report.specs.Contracts.{tally_of}
+use Rattle.report.specs.Inner.{tally_of}
 use Rattle.report.proofs.tally.no_lines.Statement.{statement}
 use Rattle.report.proofs.tally.no_lines.Tie as tie
 

@@ -1,8 +1,8 @@
 -- Each arm is the weight of its case.
 use borrow.Author.Rules.{rules}
 use mathlib.Core.Path.{sym, ap, ◌∙◌}
-use Rattle.report.specs.Rows.{bigEndian, row}
-use Rattle.report.specs.Contracts.{weight}
+use Rattle.report.specs.Rows.{big_endian, row}
+use Rattle.report.specs.Inner.{weight}
 use Rattle.report.proofs.tally.weight_of.Statement.{statement}
 use Rattle.report.proofs.tally.weight_of.Tie as tie
 
@@ -37,43 +37,43 @@ enum-told-9 : tie.Need-enum-told-9
 enum-told-9 c = search rules
 
 returns : tie.Need-returns
-unfolding row bigEndian
+unfolding row big_endian
 returns c = c.plain.ensures ∙ ap weight (sym c.before.enum_told.given.1)
 
 returns-2 : tie.Need-returns-2
-unfolding row bigEndian
+unfolding row big_endian
 returns-2 c = c.plain2.ensures ∙ ap weight (sym c.before.enum-told2.given.1)
 
 returns-3 : tie.Need-returns-3
-unfolding row bigEndian
+unfolding row big_endian
 returns-3 c = c.plain3.ensures ∙ ap weight (sym c.before.enum-told3.given.1)
 
 returns-4 : tie.Need-returns-4
-unfolding row bigEndian
+unfolding row big_endian
 returns-4 c = c.plain4.ensures ∙ ap weight (sym c.before.enum-told4.given.1)
 
 returns-5 : tie.Need-returns-5
-unfolding row bigEndian
+unfolding row big_endian
 returns-5 c = c.plain5.ensures ∙ ap weight (sym c.before.enum-told5.given.1)
 
 returns-6 : tie.Need-returns-6
-unfolding row bigEndian
+unfolding row big_endian
 returns-6 c = ap weight (sym c.enum-told6.given.1)
 
 returns-7 : tie.Need-returns-7
-unfolding row bigEndian
+unfolding row big_endian
 returns-7 c = ap weight (sym c.enum-told7.given.1)
 
 returns-8 : tie.Need-returns-8
-unfolding row bigEndian
+unfolding row big_endian
 returns-8 c = ap weight (sym c.enum-told8.given.1)
 
 returns-9 : tie.Need-returns-9
-unfolding row bigEndian
+unfolding row big_endian
 returns-9 c = ap weight (sym c.before.line.given.1)
 
 returns-10 : tie.Need-returns-10
-unfolding row bigEndian
+unfolding row big_endian
 returns-10 c = c.plain6.ensures ∙ ap weight (sym c.before.enum-told9.given.1)
 
 pub weight-of-spec : {M : Type 1} → statement M

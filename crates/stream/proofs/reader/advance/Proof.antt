@@ -1,13 +1,13 @@
 use Rattle.std.proofs.Common.{◌≡◌, ap, ◌∙◌, rules}
 use Rattle.stream.specs.Reader.{Position, position_of, passed, reach, taken}
-use Rattle.stream.specs.Contracts.{standing}
-use Rattle.stream.proofs.state.Laws.{open-position, at_position, begins}
-use Rattle.stream.proofs.reader.Laws.{passed-partial}
+use Rattle.stream.specs.Inner.{standing}
+use Rattle.stream.proofs.state.Laws.{open_position, at_position, begins}
+use Rattle.stream.proofs.reader.Laws.{passed_partial}
 use Rattle.stream.proofs.reader.advance.Statement.{statement}
 use Rattle.stream.proofs.reader.advance.Tie as tie
 
 reach-requires : tie.Need-reach-requires
-reach-requires c κs = begins c.sound.ensures (open-position c.before.before.args.state)
+reach-requires c κs = begins c.sound.ensures (open_position c.before.before.args.state)
 
 returns : tie.Need-returns
 returns c =
@@ -20,7 +20,7 @@ returns c =
     let q = (reach (position_of a.state) part).position in
     let stands : standing c.passed.result ≡ passed q =
     here.position ∙ ap passed (there.stands.position ∙ ap (λ (p : Position). (reach p part).position) from) in
-    let same = at_position (record { position = stands; room = here.room; within = here.within }) (passed-partial q) in
+    let same = at_position (record { position = stands; room = here.room; within = here.within }) (passed_partial q) in
     (λ i. record { position = same i; taken = (there.taken ∙ ap (λ (p : Position). taken p part) from) i })
 
 pub advance-spec : {M : Type 1} → statement M

@@ -1,12 +1,12 @@
 -- Byte by byte, from a state with no whole record.
 use Rattle.std.proofs.Common.{◌≡◌, ℕ, ◌+◌, ◌-◌, ◌<◌, ◌≤◌, Bool, true, false, cond, List, length, get_or, set, sym, ap, ◌∙◌, subst, arith}
 use Rattle.stream.specs.declared.state.StreamState.{StreamState}
-use Rattle.stream.specs.Record.{FrameRecord}
-use Rattle.stream.specs.Reader.{withByte}
-use Rattle.stream.specs.Contracts.{standing, StandsAt, Going, OnTheWay}
-use Rattle.stream.proofs.state.Laws.{room-left}
-use Rattle.stream.proofs.reader.Laws.{stands-more}
-use Rattle.stream.proofs.reader.Going.{way-begins, way-goes, way_on, way-ends}
+use Rattle.stream.specs.Record.{frame_record_size}
+use Rattle.stream.specs.Reader.{with_byte}
+use Rattle.stream.specs.Inner.{standing, StandsAt, Going, OnTheWay}
+use Rattle.stream.proofs.state.Laws.{room_left}
+use Rattle.stream.proofs.reader.Laws.{stands_more}
+use Rattle.stream.proofs.reader.Going.{way_begins, way_goes, way_on, way_ends}
 use Rattle.stream.proofs.reader.reach.Statement.{statement}
 use Rattle.stream.proofs.reader.reach.Tie as tie
 
@@ -19,7 +19,7 @@ decreases-loop begun part place₀ count₀ held₀ end₀ i₀ place count held
 
 loop-holds : tie.Need-loop-init invariant-loop decreases-loop
 loop-holds c =
-    let start = c.before.before.before in way-begins start.args.begun _ start.requires.0 start.requires.1 c.reading-end.ensures
+    let start = c.before.before.before in way_begins start.args.begun _ start.requires.0 start.requires.1 c.reading_end.ensures
 
 -- the state behind the byte of this turn
 module _ (c : tie.After-shared-slice-known2 invariant-loop decreases-loop) where
@@ -36,23 +36,23 @@ module _ (c : tie.After-shared-slice-known2 invariant-loop decreases-loop) where
   s = let l = c.before.before.loop in record { place = l.place; stopped = begun.stopped; count = l.count; held = l.held }
 
   going : Going (standing begun) part s here × (c.before.before.loop.end ≡ length part)
-  going = way-goes c.before.before.loop.invariant c.before.loop-test.true
+  going = way_goes c.before.before.loop.invariant c.before.loop-test.true
 
   ahead : here < length part
   ahead = omega (arith, c.before.loop-test.true, going.1)
 
-  room : s.count < FrameRecord
-  room = room-left going.0.stands going.0.open-record
+  room : s.count < frame_record_size
+  room = room_left going.0.stands going.0.open_record
 
   stands :
       StandsAt (record { place = s.place; stopped = s.stopped; count = s.count + 1; held = set s.held s.count (get_or part here 0) })
-      (withByte (standing s) (get_or part here 0))
-  stands = stands-more s going.0.stands.room (get_or part here 0) room
+      (with_byte (standing s) (get_or part here 0))
+  stands = stands_more s going.0.stands.room (get_or part here 0) room
 
 loop-less : tie.Need-loop-smaller invariant-loop decreases-loop
 loop-less c =
     let turn = c.before.before.before.before.before in
-    let told = c.before.before.before.before.is-telling.result in
+    let told = c.before.before.before.before.is_telling.result in
     let loop = turn.before.before.loop in
     let within : c.end-there2.result ≤ loop.end =
     subst (λ (n : ℕ). n ≤ loop.end) (sym c.end-there2.ensures) (least told (omega (arith, turn.before.loop-test.true))) in
@@ -65,14 +65,14 @@ loop-less c =
 loop-again : tie.Need-loop-preserved invariant-loop decreases-loop
 loop-again c =
     let turn = c.before.before.before.before.before in
-    let told = c.before.before.before.before.is-telling in
+    let told = c.before.before.before.before.is_telling in
     way_on (going turn) (ahead turn) (stands turn) told.ensures
-    c.before.before.before.place-there.ensures
-    (c.before.end-there.ensures ∙ ap (cond told.result ((s turn).count + 1)) c.before.before.partial-count.ensures)
+    c.before.before.before.place_there.ensures
+    (c.before.end_there.ensures ∙ ap (cond told.result ((s turn).count + 1)) c.before.before.partial_count.ensures)
     c.end-there2.ensures
 
 returns : tie.Need-returns invariant-loop decreases-loop
-returns c = way-ends c.before.loop.invariant (omega (arith, c.loop-test.false))
+returns c = way_ends c.before.loop.invariant (omega (arith, c.loop-test.false))
 
 pub reach-spec : {M : Type 1} → statement M
 reach-spec =

@@ -7,5 +7,5 @@ partial-count-spec =
     tie.close
     (tie.spec
     (λ c κs. search rules)
-    (λ c. ap (λ (t : Bool). cond t c.before.before.args.count 0) (sym c.if1.true ∙ c.before.is-partial.ensures))
-    (λ c. ap (λ (t : Bool). cond t c.before.before.args.count 0) (sym c.if1.false ∙ c.before.is-partial.ensures)))
+    (λ c. ap (λ (t : Bool). cond t c.before.before.args.count 0) (sym c.if1.true ∙ c.before.is_partial.ensures))
+    (λ c. ap (λ (t : Bool). cond t c.before.before.args.count 0) (sym c.if1.false ∙ c.before.is_partial.ensures)))

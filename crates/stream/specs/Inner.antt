@@ -2,15 +2,15 @@
 use Rattle.std.specs.Prelude.{◌≡◌, ℕ, ◌+◌, ◌≤◌, Bool, true, false, not, ◌&&◌, ◌⊎◌, List, length, take, drop, ◌==◌, nat_lt}
 use Rattle.stream.specs.declared.state.StreamState.{StreamState}
 use Rattle.stream.specs.declared.reader.Advanced.{Advanced}
-use Rattle.stream.specs.Record.{FrameRecord, TickKind, kind_of, wholeSize, partial}
+use Rattle.stream.specs.Record.{frame_record_size, tick_kind, kind_of, whole_size, partial}
 use Rattle.stream.specs.Reader.{Position, Reached, reach}
 
 -- So many bytes of a kind are not yet a whole record; and are one that is no tick.
-abbrev pub isOpen : ℕ → ℕ → Bool
-isOpen count kind = nat_lt count (wholeSize kind)
+abbrev pub is_open : ℕ → ℕ → Bool
+is_open count kind = nat_lt count (whole_size kind)
 
-abbrev pub isToTell : ℕ → ℕ → Bool
-isToTell count kind = not (isOpen count kind) && not (kind == TickKind)
+abbrev pub is_to_tell : ℕ → ℕ → Bool
+is_to_tell count kind = not (is_open count kind) && not (kind == tick_kind)
 
 abbrev pub standing : StreamState → Position
 standing s = record { place = s.place; stopped = s.stopped; begun = take s.count s.held }
@@ -18,8 +18,8 @@ standing s = record { place = s.place; stopped = s.stopped; begun = take s.count
 -- A state stands at a position.
 pub record StandsAt (s : StreamState) (p : Position) : Type 0 where
   pub position : standing s ≡ p
-  pub room : length s.held ≡ FrameRecord
-  pub within : s.count ≤ FrameRecord
+  pub room : length s.held ≡ frame_record_size
+  pub within : s.count ≤ frame_record_size
 
 -- What a call takes, and where its state stands, are what it reaches.
 pub record Reaches (a : Advanced) (r : Reached) : Type 0 where
@@ -28,9 +28,9 @@ pub record Reaches (a : Advanced) (r : Reached) : Type 0 where
 
 -- A whole record that is no tick.
 pub record WholeRecord (r : List ℕ) : Type 0 where
-  pub whole : wholeSize (kind_of r) ≤ length r
-  pub most : length r ≤ FrameRecord
-  pub no-tick : kind_of r ≡ TickKind → ⊥
+  pub whole : whole_size (kind_of r) ≤ length r
+  pub most : length r ≤ frame_record_size
+  pub no_tick : kind_of r ≡ tick_kind → ⊥
 
 -- In a call's loop: what the whole part reaches is reached from here, so many bytes on; no whole record is held, and reading goes on.
 abbrev pub further : ℕ → Reached → Reached
@@ -38,7 +38,7 @@ further i r = record { position = r.position; taken = i + r.taken }
 
 pub record Going (p : Position) (part : List ℕ) (s : StreamState) (i : ℕ) : Type 0 where
   pub stands : StandsAt s (standing s)
-  pub open-record : partial (standing s).begun ≡ true
+  pub open_record : partial (standing s).begun ≡ true
   pub goes_on : s.stopped ≡ false
   pub reached : reach p part ≡ further i (reach (standing s) (drop i part))
 

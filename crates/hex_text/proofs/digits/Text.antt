@@ -4,14 +4,14 @@ use mathlib.Core.List.{List, [], ◌∷◌}
 use Prim.Native.Nat.{ℕ, zero, suc, ◌+◌, ◌*◌, ◌/◌, ◌<◌}
 use native.Mathlib.Omega.{arith}
 use lib.ListN.{length, get_or}
-use Rattle.hex.specs.Digits.{lastDigit, text_of}
+use Rattle.hex_text.specs.Digits.{last_digit, text_of}
 
-pub length-text : (bytes : List ℕ) → length (text_of bytes) ≡ 2 * length bytes
+pub length_text : (bytes : List ℕ) → length (text_of bytes) ≡ 2 * length bytes
 unfolding text_of
-length-text [] = refl
-length-text (b ∷ bs) = omega (arith, length-text bs)
+length_text [] = refl
+length_text (b ∷ bs) = omega (arith, length_text bs)
 
-pub high_digit : (bytes : List ℕ) (k : ℕ) → k < length bytes → get_or (text_of bytes) (2 * k) 0 ≡ lastDigit (get_or bytes k 0 / 16)
+pub high_digit : (bytes : List ℕ) (k : ℕ) → k < length bytes → get_or (text_of bytes) (2 * k) 0 ≡ last_digit (get_or bytes k 0 / 16)
 unfolding text_of
 high_digit [] k h = absurd (omega arith)
 high_digit (b ∷ bs) zero h = refl
@@ -19,7 +19,7 @@ high_digit (b ∷ bs) (suc k) h =
     let e : 2 * suc k ≡ suc (suc (2 * k)) = omega arith in
     ap (λ (i : ℕ). get_or (text_of (b ∷ bs)) i 0) e ∙ high_digit bs k (omega arith)
 
-pub low_digit : (bytes : List ℕ) (k : ℕ) → k < length bytes → get_or (text_of bytes) (2 * k + 1) 0 ≡ lastDigit (get_or bytes k 0)
+pub low_digit : (bytes : List ℕ) (k : ℕ) → k < length bytes → get_or (text_of bytes) (2 * k + 1) 0 ≡ last_digit (get_or bytes k 0)
 unfolding text_of
 low_digit [] k h = absurd (omega arith)
 low_digit (b ∷ bs) zero h = refl

@@ -3,11 +3,11 @@ use mathlib.Core.Path.{◌≡◌, sym, ap, ◌∙◌}
 use Prim.Native.Nat.{ℕ, ◌+◌, ◌*◌, ◌/◌}
 use native.Mathlib.Omega.{arith}
 use lib.ListN.{get_or}
-use Rattle.hex.specs.Digits.{text_of}
-use Rattle.hex.proofs.digits.Text.{high_digit, low_digit}
+use Rattle.hex_text.specs.Digits.{text_of}
+use Rattle.hex_text.proofs.digits.Text.{high_digit, low_digit}
 use borrow.Author.Rules.{rules}
-use Rattle.hex.proofs.text_at.Statement.{statement}
-use Rattle.hex.proofs.text_at.Tie as tie
+use Rattle.hex_text.proofs.text_at.Statement.{statement}
+use Rattle.hex_text.proofs.text_at.Tie as tie
 
 shared-slice-read-byte : tie.Need-shared-slice-read-byte
 shared-slice-read-byte c = search rules
@@ -23,7 +23,7 @@ returns c =
     let s = c.before.before.before.before in
     let a = s.args in
     let e : 2 * (a.at / 2) ≡ a.at = omega arith in
-    c.last-digit.ensures
+    c.last_digit.ensures
     ∙ sym (high_digit a.bytes.now (a.at / 2) s.requires)
     ∙ ap (λ (i : ℕ). get_or (text_of a.bytes.now) i 0) e
 

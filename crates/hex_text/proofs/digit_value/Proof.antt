@@ -1,13 +1,13 @@
 -- Each branch is its range.
 use mathlib.Core.Path.{sym}
 use native.Mathlib.Omega.{arith}
-use Rattle.hex.proofs.digits.Laws.{below-digits, digits, between, letters, above-letters}
+use Rattle.hex_text.proofs.digits.Laws.{below_digits, digits, between, letters, above_letters}
 use borrow.Author.Rules.{rules}
-use Rattle.hex.proofs.digit_value.Statement.{statement}
-use Rattle.hex.proofs.digit_value.Tie as tie
+use Rattle.hex_text.proofs.digit_value.Statement.{statement}
+use Rattle.hex_text.proofs.digit_value.Tie as tie
 
 returns : tie.Need-returns
-returns c = sym (below-digits c.before.args.c c.if1.true)
+returns c = sym (below_digits c.before.args.c c.if1.true)
 
 add-if2 : tie.Need-overflow-add-if2
 add-if2 c = search rules
@@ -28,7 +28,7 @@ returns-4 : tie.Need-returns-4
 returns-4 c = omega (arith, letters c.before.before.before.before.args.c c.before.if3.false c.if4.true)
 
 returns-5 : tie.Need-returns-5
-returns-5 c = sym (above-letters c.before.before.before.before.args.c c.if4.false)
+returns-5 c = sym (above_letters c.before.before.before.before.args.c c.if4.false)
 
 pub digit-value-spec : {M : Type 1} → statement M
 digit-value-spec =

@@ -3,8 +3,8 @@ use mathlib.Core.Path.{sym}
 use native.Mathlib.Omega.{arith}
 use borrow.Author.Rules.{rules}
 use lib.Seq.{length-take-le, take_all}
-use Rattle.hex.proofs.counted.Statement.{statement}
-use Rattle.hex.proofs.counted.Tie as tie
+use Rattle.hex_text.proofs.counted.Statement.{statement}
+use Rattle.hex_text.proofs.counted.Tie as tie
 
 slice-aggregate-result : tie.Need-slice-aggregate-result
 slice-aggregate-result c = sym (length-take-le _ _ (omega arith))

@@ -1,7 +1,7 @@
 // Hexadecimal text to bytes and back, and the first bytes of a buffer, for the programs that run vector files.
 ghost use Rattle.std.specs.Prelude.{◌≡◌, ◌/◌, ◌<◌, min, get_or, length, take};
-ghost use Rattle.hex.specs.Digits.{digitValue, byteFrom, bytesFrom};
-ghost use Rattle.hex.specs.Digits.{ByteDigits, lastDigit, text_of, textLength, textOver};
+ghost use Rattle.hex_text.specs.Digits.{digit_value, byte_from, bytes_from};
+ghost use Rattle.hex_text.specs.Digits.{byte_digits, last_digit, text_of, text_length, text_over};
 
 // Sixteen digits, of which ten are decimal and the others letters; two to a byte.
 const BASE: u8 = 16;
@@ -14,7 +14,7 @@ const BYTE_DIGITS: usize = 2;
 
 // A digit's value; 0 for any other character.
 pub fn digit_value(c: u8) -> u8
-    ensures { result ≡ digitValue c }
+    ensures { result ≡ digit_value c }
 {
     if c < b'0' {
         return 0;
@@ -39,7 +39,7 @@ fn char_at(text: &[u8], at: usize) -> u8
 
 // The byte whose two digits stand at a place.
 pub fn byte_from(text: &[u8], at: usize) -> u8
-    ensures { result ≡ byteFrom text.now at }
+    ensures { result ≡ byte_from text.now at }
 {
     let high = digit_value(char_at(text, at));
     if text.len() <= at {
@@ -50,7 +50,7 @@ pub fn byte_from(text: &[u8], at: usize) -> u8
 
 // Fills `out` with the bytes that a text starts with; what the text lacks is zero.
 pub fn fill(text: &[u8], out: &mut [u8])
-    ensures { out.new ≡ bytesFrom text.now (length out.old) 0 }
+    ensures { out.new ≡ bytes_from text.now (length out.old) 0 }
 {
     let mut i: usize = 0;
     while i < out.len() {
@@ -61,7 +61,7 @@ pub fn fill(text: &[u8], out: &mut [u8])
 
 // The last digit of a number, in lower case.
 fn last_digit(n: u8) -> u8
-    ensures { result ≡ lastDigit n }
+    ensures { result ≡ last_digit n }
 {
     let value = n % BASE;
     if value < DECIMALS {
@@ -73,7 +73,7 @@ fn last_digit(n: u8) -> u8
 
 // The character at a place of the text of bytes.
 fn text_at(bytes: &[u8], at: usize) -> u8
-    requires { at / ByteDigits < length bytes.now }
+    requires { at / byte_digits < length bytes.now }
     ensures { result ≡ get_or (text_of bytes.now) at 0 }
 {
     let byte = bytes[at / BYTE_DIGITS];
@@ -86,8 +86,8 @@ fn text_at(bytes: &[u8], at: usize) -> u8
 
 // Writes the text of bytes to the start of `out`, as far as there is room, and answers how many characters that is.
 pub fn write_text(bytes: &[u8], out: &mut [u8]) -> usize
-    ensures answer { result ≡ textLength bytes.now (length out.old) }
-    ensures lent { out.new ≡ textOver bytes.now out.old }
+    ensures answer { result ≡ text_length bytes.now (length out.old) }
+    ensures lent { out.new ≡ text_over bytes.now out.old }
 {
     let mut n: usize = 0;
     while n < out.len() && n / BYTE_DIGITS < bytes.len() {

@@ -14,14 +14,14 @@ pub record PutSoFar (whole start out : List ℕ) (n : ℕ) : Type 0 where
   pub there : n ≤ length whole
 
 module _ {whole start out : List ℕ} {n : ℕ} (p : PutSoFar whole start out n) where
-  pub length-kept : length out ≡ length start
-  length-kept =
+  pub length_kept : length out ≡ length start
+  length_kept =
       let taken = length-take-le n whole p.there ∙ sym (length-take-le n start p.room) in
       ap length p.so_far ∙ length_front start (take n whole) n taken
 
-  pub one-put : (a : ℕ) → n < length out → n < length whole → a ≡ get_or whole n 0 → PutSoFar whole start (set out n a) (n + 1)
-  one-put a r l e =
-      let s : n < length start = omega (arith, length-kept) in
+  pub one_put : (a : ℕ) → n < length out → n < length whole → a ≡ get_or whole n 0 → PutSoFar whole start (set out n a) (n + 1)
+  one_put a r l e =
+      let s : n < length start = omega (arith, length_kept) in
       let taken = length-take-le n whole p.there in
       let next : set (take n whole ++ drop n start) n (get_or whole n 0) ≡ take (n + 1) whole ++ drop (n + 1) start =
       rw (add-one, drop-cons start n 0 s, take-suc whole n 0 l, append_snoc)
@@ -32,6 +32,6 @@ module _ {whole start out : List ℕ} {n : ℕ} (p : PutSoFar whole start out n)
   pub ended : {m : ℕ} → n ≡ m → out ≡ take m whole ++ drop m start
   ended e = p.so_far ∙ ap (λ (k : ℕ). take k whole ++ drop k start) e
 
-  pub both-ended : length whole ≤ n → length start ≤ n → out ≡ whole
-  both-ended w s =
+  pub both_ended : length whole ≤ n → length start ≤ n → out ≡ whole
+  both_ended w s =
       p.so_far ∙ (λ i. take_all n whole w i ++ drop_of_length-le start s i) ∙ append-nil whole

@@ -3,8 +3,8 @@ use mathlib.Core.Path.{sym}
 use native.Mathlib.Omega.{arith}
 use lib.ListN.{get_or-eq_default}
 use borrow.Author.Rules.{rules}
-use Rattle.hex.proofs.char_at.Statement.{statement}
-use Rattle.hex.proofs.char_at.Tie as tie
+use Rattle.hex_text.proofs.char_at.Statement.{statement}
+use Rattle.hex_text.proofs.char_at.Tie as tie
 
 shared-slice-read-result : tie.Need-shared-slice-read-result
 shared-slice-read-result c = search rules
