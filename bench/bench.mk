@@ -3,13 +3,10 @@
 BENCH := build/bench
 DECODER_SOURCES := $(wildcard bench/decoder_*.c)
 DECODER_OBJECTS := $(DECODER_SOURCES:bench/%.c=$(BENCH)/%.o)
-BENCH_OBJECTS := $(patsubst bench/%.c,$(BENCH)/%.o,$(filter-out bench/lookups.c,$(wildcard bench/*.c)))
+BENCH_OBJECTS := $(patsubst bench/%.c,$(BENCH)/%.o,$(wildcard bench/*.c))
 BENCH_CFLAGS := $(CFLAGS) -Ibench -I$(BENCH) -Ihost
 
 SIZE_OF = "$$(size -t $(1) | awk 'END { print $$4 }')"
-# Bytes of the archive's sections whose names match, and of those of the lookups of SAE rows alone.
-SECTIONS_OF = "$$(size -A $(ARCHIVE) | awk -v name='$(1)' '$$1 ~ name { n += $$2 } END { print n + 0 }')"
-LOOKUPS := catalogue::(sae|numbered|unpack|tables)::
 
 .PHONY: bench bench-test
 
@@ -29,27 +26,16 @@ $(BENCH)/%.o: bench/%.c $(wildcard bench/*.h) host/format.h include/rakhubole.h 
 $(BENCH)/bench: $(BENCH_OBJECTS) archive
 	$(CC) $(BENCH_OBJECTS) $(ARCHIVE) -Wl,-z,now -o $@
 
-# The archive with the names of two lookups opened, to time them by themselves.
-$(BENCH)/lookups: $(BENCH)/lookups.o archive
-	objcopy --redefine-sym catalogue::sae::prn_row=sae_prn_row --redefine-sym catalogue::sae::slot_row=sae_slot_row $(ARCHIVE) $(BENCH)/opened.a
-	objcopy --globalize-symbol=sae_prn_row --globalize-symbol=sae_slot_row $(BENCH)/opened.a
-	$(CC) $(BENCH)/lookups.o $(BENCH)/opened.a -Wl,-z,now -o $@
-
-bench: $(BENCH)/bench $(BENCH)/lookups ## print time, stack and size of the library beside those of a decoder in C
+bench: $(BENCH)/bench ## print time, stack and size of the library beside those of a decoder in C
 	@sed -n 's/^model name[^:]*: /machine: /p' /proc/cpuinfo | head -n 1
 	@$(BENCH)/bench times crates
-	@$(BENCH)/lookups times
 	@bench/instructions.sh $(BENCH)/bench
 	@$(BENCH)/bench stack crates
 	@printf '\nBytes of code and tables, as size counts them:\n\n%-28s %12s %12s\n' '' archive C
 	@printf '%-28s %12s %12s\n' 'all eleven calls' $(call SIZE_OF,$(ARCHIVE)) $(call SIZE_OF,$(DECODER_OBJECTS))
-	@printf '\nBytes of the archive by section, and of these what the lookups of SAE rows take:\n\n%-28s %12s %12s\n' '' all lookups
-	@printf '%-28s %12s %12s\n' 'code' $(call SECTIONS_OF,^[.]text) $(call SECTIONS_OF,^[.]text.*$(LOOKUPS))
-	@printf '%-28s %12s %12s\n' 'constants' $(call SECTIONS_OF,^[.]rodata) $(call SECTIONS_OF,^[.]rodata.*$(LOOKUPS))
 	@echo; echo "Names that the archive takes from outside:" $$(nm -u $(ARCHIVE) | awk '$$1 == "U" { print $$2 }')
 
 checks: bench-test
 
-bench-test: $(BENCH)/bench $(BENCH)/lookups ## compare the answers of the library with those of the decoder in C, and its SAE rows with the tables
+bench-test: $(BENCH)/bench ## compare the answers of the library with those of the decoder in C
 	$(BENCH)/bench compare crates
-	$(BENCH)/lookups compare

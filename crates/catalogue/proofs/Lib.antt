@@ -1,6 +1,5 @@
 -- Theorems for the signer. Laws of one module stand below its name.
 pub mod former
-pub mod search
 pub mod SaeTables
 pub mod Accepted
 pub mod Within

@@ -1,16 +1,12 @@
--- The rule of both SAE tables, by one computed test, and what a prn_kind row takes in the code.
-use Prim.Native.Nat.{ℕ, ◌*◌, ◌/◌}
-use mathlib.Core.Path.{◌≡◌, refl, sym, ap, ◌∙◌}
+-- The rule of both SAE tables, by one computed test.
+use mathlib.Core.Path.{◌≡◌, refl}
 use mathlib.Core.Bool.{true}
-use mathlib.Core.List.{List, map}
-use lib.ListN.{length, take, drop}
-use Rattle.catalogue.specs.declared.rows.PrnRow.{PrnRow}
+use mathlib.Core.List.{map}
 use Rattle.catalogue.specs.Rows.{in_order, key_fits, prn_fits, slot_fits, prn_sized, slot_sized}
 use Rattle.catalogue.specs.Tables.{prn_rows, slot_rows}
 use Rattle.catalogue.specs.Search.{every, rising}
 use Rattle.catalogue.specs.Sae.{prn_row_key, slot_row_key, tables_hold}
-use Rattle.catalogue.specs.Unpack.{prn_in, prns_in}
-use Rattle.catalogue.proofs.search.Laws.{both, rows_counted}
+use Rattle.catalogue.proofs.search.Laws.{both}
 
 -- The rule of both tables: document 01, "One statement over the whole table gives its order and ranges".
 pub tables_hold_lem : tables_hold ≡ true
@@ -42,8 +38,3 @@ table_rule =
       prn_sized_lem = four.1;
       slot_sized_lem = five.1;
     }
-
--- The prn_kind table in the code: document 02, "Keep the prn_kind rows, however that is done now, in at most five bytes each".
-pub five_bytes_each : (table : List ℕ) → prns_in table ≡ prn_rows → length table / 5 ≡ length prn_rows
-five_bytes_each table e =
-    sym (rows_counted (λ i. prn_in (take 5 (drop (i * 5) table))) 0 (length table / 5)) ∙ ap (λ (l : List PrnRow). length l) e

@@ -2,7 +2,7 @@
 ghost use Rattle.std.specs.Prelude.{◌≡◌};
 ghost use Rattle.catalogue.specs.Inner.{bit_of, Marks};
 
-use crate::numbers::two_at;
+use crate::record::two_at;
 use frame::bytes::byte_at;
 
 // The bits of a filter, and what spreads kinds and keys over them.

@@ -2,12 +2,10 @@
 mod filter;
 pub mod kind;
 pub mod lookup;
-mod numbered;
-mod numbers;
 mod record;
 pub mod refusal;
 pub mod rows;
 mod sae;
+mod search;
 pub mod supplement;
 mod tables;
-mod unpack;

@@ -8,8 +8,7 @@ ghost use Rattle.catalogue.specs.Inner.{record_in};
 ghost use Rattle.catalogue.specs.Lookup.{prn_key, slot_key, or_record, catalogue, length_for, prns_used, layout_found};
 
 use crate::kind::{MOST_PRNS, PRN, SELECTOR, SLOT};
-use crate::numbers::two_at;
-use crate::record::{LAYOUT_COUNT, LAYOUT_PRNS, SELECTOR_LENGTH, prn_of, slot_of};
+use crate::record::{LAYOUT_COUNT, LAYOUT_PRNS, SELECTOR_LENGTH, prn_of, slot_of, two_at};
 use crate::rows::{PrnFound, SlotFound};
 use crate::sae::{prn_row, slot_row};
 use crate::supplement::bytes_with;

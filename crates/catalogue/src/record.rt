@@ -1,9 +1,8 @@
 // A record of a supplement: its key and its fields.
 ghost use Rattle.std.specs.Prelude.{◌≡◌, ◌<◌, drop};
-ghost use Rattle.catalogue.specs.Record.{has_key, slot_row, prn_row, all_zero, header_fits, selector_length, selector_bytes, selector_fits, layout_fits, in_range, in_sae};
+ghost use Rattle.catalogue.specs.Record.{has_key, two, four, slot_row, prn_row, all_zero, header_fits, selector_length, selector_bytes, selector_fits, layout_fits, in_range, in_sae};
 
 use crate::kind::{LAYOUT, MOST_PRNS, PRN, SELECTOR, SLOT};
-use crate::numbers::{four_at, two_at};
 use crate::rows::{PrnRow, SlotRow, prn_fits, slot_fits};
 use crate::sae::{has_prn, has_slot};
 use frame::bytes::byte_at;
@@ -29,6 +28,26 @@ const MOST_SELECTOR: usize = 2;
 pub(crate) const LAYOUT_COUNT: usize = 6;
 
 pub(crate) const LAYOUT_PRNS: usize = 7;
+
+pub(crate) fn two_at(bytes: &[u8], i: usize) -> u16
+    requires { i < 64 }
+    ensures { result ≡ two bytes.now i }
+{
+    if i + 1 < bytes.len() {
+        bytes[i] as u16 * 256 + bytes[i + 1] as u16
+    } else {
+        byte_at(bytes, i) as u16 * 256
+    }
+}
+
+pub(crate) fn four_at(bytes: &[u8], i: usize) -> u32
+    requires { i < 60 }
+    ensures { result ≡ four bytes.now i }
+{
+    let high = two_at(bytes, i);
+    let low = two_at(bytes, i + 2);
+    high as u32 * 65536 + low as u32
+}
 
 pub(crate) fn slot_of(bytes: &[u8]) -> SlotRow
     ensures { result ≡ slot_row bytes.now }

@@ -5,10 +5,12 @@ use catalogue::rows::{PrnFound, SlotFound};
 use libc::STDOUT_FILENO;
 
 // SLOT numbers of document 003 are far below this.
-const NUMBERS_END: u16 = 512;
+const NUMBERS_END: u16 = 1024;
 
-// Forms and widths of any byte are sought, those of no SLOT too.
-const LAST_BYTE: u8 = 255;
+// Forms run from 1 to 9 and widths from 1 to 64.
+const FORMS_END: u8 = 10;
+
+const WIDTHS_END: u8 = 65;
 
 const LAST_PRN: u16 = 0xFFFF;
 
@@ -65,10 +67,9 @@ fn show_numbers(form: u8, width: u8) {
 }
 
 fn show_widths(form: u8) {
-    for width in 0..LAST_BYTE {
+    for width in 1..WIDTHS_END {
         show_numbers(form, width);
     }
-    show_numbers(form, LAST_BYTE);
 }
 
 fn show_prns() {
@@ -80,8 +81,7 @@ fn show_prns() {
 
 fn main() {
     show_prns();
-    for form in 0..LAST_BYTE {
+    for form in 1..FORMS_END {
         show_widths(form);
     }
-    show_widths(LAST_BYTE);
 }

@@ -5,10 +5,10 @@ use Rattle.table_rows.proofs.main.Statement.{statement}
 use Rattle.table_rows.proofs.main.Tie as tie
 
 abbrev invariant-loop : tie.invariant-loop
-invariant-loop form₀ form = form ≤ 255
+invariant-loop form₀ form = form ≤ 10
 
 abbrev decreases-loop : tie.decreases-loop
-decreases-loop form₀ form = 255 - form
+decreases-loop form₀ form = 10 - form
 
 show-prns-requires : tie.Need-show-prns-requires invariant-loop decreases-loop
 show-prns-requires c κs = tt
@@ -28,9 +28,6 @@ loop-less c = omega arith
 loop-again : tie.Need-loop-preserved invariant-loop decreases-loop
 loop-again c = omega arith
 
-show-widths-requires-2 : tie.Need-show-widths-requires-2 invariant-loop decreases-loop
-show-widths-requires-2 c κs = tt
-
 returns : tie.Need-returns invariant-loop decreases-loop
 returns c = tt
 
@@ -46,5 +43,4 @@ main_spec =
     add-form
     loop-less
     loop-again
-    show-widths-requires-2
     returns)

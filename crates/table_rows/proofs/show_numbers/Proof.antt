@@ -5,10 +5,10 @@ use Rattle.table_rows.proofs.show_numbers.Statement.{statement}
 use Rattle.table_rows.proofs.show_numbers.Tie as tie
 
 abbrev invariant-loop : tie.invariant-loop
-invariant-loop form width number₀ number = number ≤ 512
+invariant-loop form width number₀ number = number ≤ 1024
 
 abbrev decreases-loop : tie.decreases-loop
-decreases-loop form width number₀ number = 512 - number
+decreases-loop form width number₀ number = 1024 - number
 
 loop-holds : tie.Need-loop-init invariant-loop decreases-loop
 loop-holds c = omega arith

@@ -5,10 +5,10 @@ use Rattle.table_rows.proofs.show_widths.Statement.{statement}
 use Rattle.table_rows.proofs.show_widths.Tie as tie
 
 abbrev invariant-loop : tie.invariant-loop
-invariant-loop form width₀ width = width ≤ 255
+invariant-loop form width₀ width = width ≤ 65
 
 abbrev decreases-loop : tie.decreases-loop
-decreases-loop form width₀ width = 255 - width
+decreases-loop form width₀ width = 65 - width
 
 loop-holds : tie.Need-loop-init invariant-loop decreases-loop
 loop-holds c = omega arith
@@ -25,9 +25,6 @@ loop-less c = omega arith
 loop-again : tie.Need-loop-preserved invariant-loop decreases-loop
 loop-again c = omega arith
 
-show-numbers-requires-2 : tie.Need-show-numbers-requires-2 invariant-loop decreases-loop
-show-numbers-requires-2 c κs = tt
-
 returns : tie.Need-returns invariant-loop decreases-loop
 returns c = tt
 
@@ -42,5 +39,4 @@ show-widths-spec =
     add-width
     loop-less
     loop-again
-    show-numbers-requires-2
     returns)

@@ -1,66 +1,45 @@
--- The bracket closes on the prn_kind; where it has closed, no row has it.
-use mathlib.Core.Path.{sym, ap, ◌∙◌}
-use mathlib.Core.Option.{some}
-use Prim.Native.Nat.{◌-◌}
+-- The row at the place of the key in its part; past the part there is none.
+use mathlib.Core.Path.{sym}
+use Prim.Native.Nat.{ℕ, ◌+◌}
 use native.Mathlib.Omega.{arith}
-use Rattle.catalogue.specs.Tables.{prn_rows}
-use Rattle.catalogue.specs.Sae.{sae_prn, prn_row_key}
-use Rattle.catalogue.specs.Unpack.{no_prn}
-use Rattle.catalogue.proofs.SaeTables.{table_rule}
-use Rattle.catalogue.proofs.sae.Laws.{few_prns}
-use Rattle.catalogue.proofs.search.Laws.{Bracket, bracket_all, bracket_up, bracket_down, bracket_hit, bracket_shut}
+use lib.ListN.{get_or}
+use lib.Seq.{length-take-le}
+use mir.Syntax.{w32}
+use mir.Val.{Fits}
+use Rattle.catalogue.specs.Inner.{prns_apart}
+use Rattle.catalogue.proofs.sae.Laws.{prn_there, prn_gone}
 use borrow.Author.Rules.{rules}
 use Rattle.catalogue.proofs.sae.prn_row.Statement.{statement}
 use Rattle.catalogue.proofs.sae.prn_row.Tie as tie
 
-abbrev invariant-loop : tie.invariant-loop
-invariant-loop prn low₀ high₀ low high = Bracket prn_row_key no_prn prn_rows prn low high
+bound : (c : tie.After-prn-part) (i : ℕ) → Fits w32 (get_or c.prn_part.result i 0)
+bound c i = search rules
 
-abbrev decreases-loop : tie.decreases-loop
-decreases-loop prn low₀ high₀ low high = high - low
+there : tie.Need-returns
+there c =
+    let part = c.before.before.before in
+    prn_there part.prn_part.result part.before.args.prn c.before.place_of.result part.prn_part.ensures
+    c.before.place_of.ensures c.if1.true
 
-begun : tie.Need-loop-init invariant-loop decreases-loop
-unfolding prn_rows
-begun c = bracket_all _ _ _ _
-
-hit : tie.Need-returns invariant-loop decreases-loop
-unfolding sae_prn
-hit c =
-    let row = c.before.before in
-    let told = row.prn_numbered.ensures in
-    ap some (c.unpacked_prn.ensures ∙ told)
-    ∙ bracket_hit table_rule.prn_rising row.before.before.loop.invariant _ (omega arith) (sym (ap prn_row_key told) ∙ c.before.if1.true)
-
-above : tie.Need-loop-preserved invariant-loop decreases-loop
-above c =
-    let row = c.before.before in
-    bracket_up table_rule.prn_rising row.before.before.loop.invariant _ (omega arith) (omega arith)
-    (omega (arith, ap prn_row_key row.prn_numbered.ensures, c.if2.true))
-
-below : tie.Need-loop-preserved-2 invariant-loop decreases-loop
-below c =
-    let row = c.before.before in
-    bracket_down table_rule.prn_rising row.before.before.loop.invariant _ (omega arith) (omega arith)
-    (omega (arith, ap prn_row_key row.prn_numbered.ensures, c.if2.false, c.before.if1.false))
-
-shut : tie.Need-returns-2 invariant-loop decreases-loop
-unfolding sae_prn
-shut c = bracket_shut table_rule.prn_rising c.before.loop.invariant c.loop-test.false
+gone : tie.Need-returns-2
+gone c =
+    let part = c.before.before.before in
+    prn_gone part.prn_part.result part.before.args.prn c.before.place_of.result part.prn_part.ensures
+    c.before.place_of.ensures c.if1.false
 
 pub prn-row-spec : {M : Type 1} → statement M
 prn-row-spec =
     tie.close
     (tie.spec
-    invariant-loop
-    decreases-loop
-    begun
-    (λ c. omega (arith, few_prns, c.before.loop.invariant.within))
     (λ c κs. search rules)
-    (λ c κs. search rules)
-    hit
-    (λ c. omega (arith, few_prns, c.before.before.before.before.loop.invariant.within))
-    (λ c. omega arith)
-    above
-    (λ c. omega arith)
-    below
-    shut)
+    (λ c. search rules)
+    (λ c. sym (length-take-le prns_apart c.before.prn_part.result (omega (arith, c.before.prn_part.ensures.size))))
+    (λ c κs. c.before.prn_part.ensures.rises)
+    (λ c. search rules)
+    (λ c. search rules)
+    (λ c. search rules)
+    (λ c. omega (arith, bound c.before.before.before (prns_apart + c.before.place_of.result)))
+    (λ c. search rules)
+    (λ c. search rules)
+    there
+    gone)

@@ -2,8 +2,8 @@
 use Prim.Native.Nat.{◌+◌, ◌*◌}
 use Rattle.catalogue.specs.Record.{four}
 use borrow.Author.Rules.{rules}
-use Rattle.catalogue.proofs.numbers.four_at.Statement.{statement}
-use Rattle.catalogue.proofs.numbers.four_at.Tie as tie
+use Rattle.catalogue.proofs.record.four_at.Statement.{statement}
+use Rattle.catalogue.proofs.record.four_at.Tie as tie
 
 joined : tie.Need-returns
 unfolding four

@@ -5,8 +5,8 @@ use native.Mathlib.Omega.{arith}
 use lib.ListN.{get_or, get_or-eq_default}
 use Rattle.catalogue.specs.Record.{two}
 use borrow.Author.Rules.{rules}
-use Rattle.catalogue.proofs.numbers.two_at.Statement.{statement}
-use Rattle.catalogue.proofs.numbers.two_at.Tie as tie
+use Rattle.catalogue.proofs.record.two_at.Statement.{statement}
+use Rattle.catalogue.proofs.record.two_at.Tie as tie
 
 -- The bytes that are read.
 high : (c : tie.After-shared-slice-known2) → get_or c.before.before.before.args.bytes.now c.before.before.before.args.i 0 < 256
