@@ -1,4 +1,5 @@
 // The exported calls: numbers and byte slices in, one number out. include/rakhubole.h says them in words.
+#![tactic(auto)]
 ghost use Rattle.std.specs.Prelude.{◌≡◌, length};
 ghost use Rattle.frame.specs.Frame.{sizes, reading_of, runs, writing_of, out_written};
 ghost use Rattle.frame.specs.Reader.{read_frame};

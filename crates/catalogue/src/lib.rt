@@ -1,4 +1,5 @@
 // The catalogue: the SAE tables and a supplement of records together.
+#![tactic(auto)]
 mod filter;
 pub mod kind;
 pub mod lookup;

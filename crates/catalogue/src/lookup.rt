@@ -18,7 +18,7 @@ use frame::bytes::byte_at;
 const USUAL_LENGTH: u8 = 1;
 
 // The PRNs of a layout: as many of the sixteen as the count says, if it was found.
-#[derive(Drop)]
+#[derive(Clone, Copy)]
 pub struct LayoutFound {
     pub found: bool,
     pub count: usize,

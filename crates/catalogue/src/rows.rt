@@ -25,7 +25,7 @@ pub const PKT: u8 = 9;
 const WIDEST: u8 = 64;
 
 // A PRN with the form, width and number of its SLOT.
-#[derive(Drop)]
+#[derive(Clone, Copy)]
 pub struct PrnRow {
     pub prn: u16,
     pub form: u8,
@@ -33,14 +33,14 @@ pub struct PrnRow {
     pub slot: u16,
 }
 
-#[derive(Drop)]
+#[derive(Clone, Copy)]
 pub enum PrnFound {
     Missing,
     Found(PrnRow),
 }
 
 // A SLOT: key, scaling and raw limits. The offset is a 32-bit pattern in two's complement, and so are the limits of SNM.
-#[derive(Drop)]
+#[derive(Clone, Copy)]
 pub struct SlotRow {
     pub form: u8,
     pub width: u8,
@@ -52,7 +52,7 @@ pub struct SlotRow {
     pub highest: u32,
 }
 
-#[derive(Drop)]
+#[derive(Clone, Copy)]
 pub enum SlotFound {
     Missing,
     Found(SlotRow),

@@ -31,14 +31,14 @@ const MIDDLING_FILTER: usize = 128;
 const FILTER: usize = 1024;
 
 // Where a record stands, from its first byte to behind its last.
-#[derive(Drop)]
+#[derive(Clone, Copy)]
 enum RecordFound {
     Missing,
     At(usize, usize),
 }
 
 // The refusal, 0 for none, and the place of the record with the fault.
-#[derive(Drop)]
+#[derive(Clone, Copy)]
 pub struct Checked {
     pub refusal: u8,
     pub place: usize,

@@ -1,4 +1,5 @@
 // The published vectors of CRC-8/SAE-J1850: prints the check byte of each run, one a line.
+#![tactic(auto)]
 use libc::STDOUT_FILENO;
 
 const BYTE_DIGITS: usize = 2;

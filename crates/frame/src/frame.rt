@@ -4,7 +4,7 @@
 pub const MOST_BYTES: usize = 12;
 
 // Of a frame that was read: a refusal's number, or the length of each part without check bytes and the response kind.
-#[derive(Drop)]
+#[derive(Clone, Copy)]
 pub enum Reading {
     Refused(u8),
     Accepted {
@@ -16,7 +16,7 @@ pub enum Reading {
 }
 
 // Of a frame that was written: a refusal's number, or the length of each run.
-#[derive(Drop)]
+#[derive(Clone, Copy)]
 pub enum Writing {
     Refused(u8),
     Written { first: usize, response: usize },

@@ -3,7 +3,7 @@ ghost use Rattle.std.specs.Prelude.{◌≡◌};
 ghost use Rattle.frame.specs.Response.{kind_number, is_unassigned, is_checked, response_size};
 
 // What response a message type asks for: document 000, table 5.
-#[derive(Drop)]
+#[derive(Clone, Copy)]
 pub enum ResponseKind {
     Empty,
     Single,

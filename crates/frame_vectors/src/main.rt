@@ -4,6 +4,7 @@
 // bytes at 5, 41 and 77, all in hexadecimal. R reads the first two runs as a frame of J1850, r the first as a message of ISO 9141-2.
 // W writes a header, data and response, w a header and data, into as many bytes as the last length says, of a buffer that is shown
 // whole.
+#![tactic(auto)]
 ghost use Rattle.std.specs.Prelude.{◌≡◌, ◌+◌, ◌≤◌, length};
 
 use libc::{STDIN_FILENO, STDOUT_FILENO};

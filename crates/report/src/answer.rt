@@ -16,7 +16,7 @@ use frame::frame::Reading;
 use frame::refusal::{NO_REFUSAL, OUTPUT_SHORT};
 
 // A refusal's number and place, or the length of the rows.
-#[derive(Drop)]
+#[derive(Clone, Copy)]
 pub enum Reported {
     Refused(u8, usize),
     Shown(usize),

@@ -2,7 +2,7 @@
 
 // A Number, a code, or why nothing can be shown; Left and Answered are those of remainder and response. A Number carries the whole number
 // above the line and the divisor, unreduced, and the double that they give.
-#[derive(Drop)]
+#[derive(Clone, Copy)]
 pub enum Line {
     Number {
         value: f64,
@@ -21,7 +21,7 @@ pub enum Line {
 }
 
 // A line in an array of lines.
-#[derive(Drop)]
+#[derive(Clone, Copy)]
 pub struct Held {
     pub line: Line,
 }

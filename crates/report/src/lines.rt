@@ -10,7 +10,7 @@ use catalogue::kind::MOST_PRNS;
 pub(crate) const MOST_LINES: usize = MOST_PRNS + 2;
 
 // The lines that are shown, their count and what they add up to.
-#[derive(Drop)]
+#[derive(Clone, Copy)]
 pub struct Report {
     pub held: [Held; MOST_LINES],
     pub count: usize,

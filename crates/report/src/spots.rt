@@ -9,7 +9,7 @@ use catalogue::lookup::find_prn;
 use catalogue::rows::{PrnFound, PrnRow};
 
 // Where the next item starts: at a bit; nowhere, as an earlier PRN was missing; or past the data.
-#[derive(Drop)]
+#[derive(Clone, Copy)]
 pub enum Place {
     Bit(usize),
     Lost,
@@ -17,7 +17,7 @@ pub enum Place {
 }
 
 // Where an item lies: nowhere, as the place is lost; behind one that was cut; its PRN has no row; it ends past the data; or from a bit on.
-#[derive(Drop)]
+#[derive(Clone, Copy)]
 pub enum Spot {
     Astray,
     Beyond,

@@ -7,7 +7,7 @@ use crate::line::Line;
 use crate::row::{BARE_ROW, BYTE_ROW, CODE_ROW, NUMBER_ROW};
 
 // Whether a line flags, whether one is Unknown, and how long the rows of all are.
-#[derive(Drop)]
+#[derive(Clone, Copy)]
 pub struct Tally {
     pub flagged: bool,
     pub unknown: bool,

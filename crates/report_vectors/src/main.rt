@@ -4,6 +4,7 @@
 // first run and the response, each as four digits of its length, a space, its bytes and a space; then four digits of how much is lent
 // of a buffer. The answer is shown with the lent bytes and the two behind them. The bench cases stand first, and the file `names`
 // beside `stdin` names each; P1 to P13 and those of ISO 9141-2 are proved of the definitions in proofs/BenchLaws.antt.
+#![tactic(auto)]
 ghost use Rattle.std.specs.Prelude.{◌≡◌, ◌<◌, length};
 ghost use Rattle.report_vectors.specs.Input.{supplement_buffer, number_end};
 
@@ -37,7 +38,7 @@ const BYTE_VALUES: usize = 256;
 const WORD_DIGITS: usize = 16;
 
 // A number of the line, and whether it was there.
-#[derive(Drop)]
+#[derive(Clone, Copy)]
 struct Number {
     there: bool,
     value: usize,

@@ -18,7 +18,7 @@ use frame::refusal::{NO_REFUSAL, OUTPUT_SHORT};
 use std::num::wrapping_add_u64;
 
 // What a call tells of the part: a refusal's number, or the length of each run of the frame that it gives.
-#[derive(Drop)]
+#[derive(Clone, Copy)]
 pub enum Told {
     Nothing,
     Refused(u8),
@@ -26,7 +26,7 @@ pub enum Told {
 }
 
 // What a call takes, and the state that it hands on.
-#[derive(Drop)]
+#[derive(Clone, Copy)]
 pub struct Advanced {
     pub taken: usize,
     pub state: StreamState,

@@ -19,7 +19,7 @@ const MOST_HELD: usize = STATE_BYTES - HELD_AT;
 
 // The place of the record begun, or of the next; whether reading has stopped; how many bytes of the record begun are held, and
 // these, with room for a whole record.
-#[derive(Drop)]
+#[derive(Clone, Copy)]
 pub struct StreamState {
     pub place: u64,
     pub stopped: bool,

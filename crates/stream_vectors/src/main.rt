@@ -4,6 +4,7 @@
 // the part at 51, its bytes at 54, and at 183 how many bytes are lent of a buffer. A part has 64 bytes at most; behind it stand dots.
 // A step stands alone: its line has the whole state. The telling call's answer is shown with the whole buffer, the advancing call's
 // with the state that it leaves; then, of the state in the line, the answers of the end and of the place.
+#![tactic(auto)]
 ghost use Rattle.std.specs.Prelude.{◌≤◌, length};
 
 use libc::{STDIN_FILENO, STDOUT_FILENO};

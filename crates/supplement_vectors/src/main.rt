@@ -1,6 +1,7 @@
 // Runs the supplement vectors through the exported test and prints what each answers.
 //
 // A line of standard input is one case in hexadecimal: four digits of its length, a space, its bytes.
+#![tactic(auto)]
 ghost use Rattle.std.specs.Prelude.{◌≡◌, ◌<◌, length};
 
 use libc::{STDIN_FILENO, STDOUT_FILENO};

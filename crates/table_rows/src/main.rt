@@ -1,5 +1,6 @@
 // Prints every row of the SAE tables as the lookups find it under the empty supplement: PRN rows by PRN, then SLOT rows by form, width
 // and number.
+#![tactic(auto)]
 use catalogue::lookup::{find_prn, find_slot};
 use catalogue::rows::{PrnFound, SlotFound};
 use libc::STDOUT_FILENO;
