@@ -48,6 +48,7 @@ pub fn check_byte(run: &[u8]) -> u8
 }
 
 // Whether a run ends in the check byte of what stands before it.
+#[tactic(auto, unfolding(crate::specs::CheckByte::is_sealed, crate::specs::Seal::is_sealed_by))]
 pub(crate) fn is_sealed(run: &[u8]) -> bool
     ensures { result ≡ is_sealed run.now }
 {

@@ -27,6 +27,7 @@ fn bytes_needed(kind: ResponseKind, of_data: usize) -> usize
 }
 
 // The first of the refusals 50 to 53 that applies to a response of n bytes.
+#[tactic(auto, unfolding(crate::specs::Count::count_refusal, crate::specs::Count::count_rules, crate::specs::Refusal::first_broken))]
 pub(crate) fn count_refusal(kind: ResponseKind, of_data: usize, n: usize) -> u8
     ensures { result ≡ count_refusal kind of_data n }
 {

@@ -39,6 +39,7 @@ pub(crate) fn message_type(b: u8) -> u8
 }
 
 // How many header bytes H asks for.
+#[tactic(auto, unfolding(crate::specs::Header::header_size))]
 pub fn header_size(run: &[u8]) -> usize
     ensures { result ≡ header_size run.now }
 {
@@ -50,6 +51,7 @@ pub fn header_size(run: &[u8]) -> usize
 }
 
 // All sixteen types, one by one; no other number is a type.
+#[tactic(auto, unfolding(crate::specs::Header::response_kind, crate::specs::Header::type_table))]
 pub(crate) fn response_kind(t: u8) -> ResponseKind
     ensures { result ≡ response_kind t }
 {
@@ -75,6 +77,7 @@ pub(crate) fn response_kind(t: u8) -> ResponseKind
 }
 
 // The response kind that a run's first byte asks for.
+#[tactic(auto, unfolding(crate::specs::Header::kind_asked))]
 pub(crate) fn kind_asked(run: &[u8]) -> ResponseKind
     ensures { result ≡ kind_asked run.now }
 {

@@ -37,6 +37,7 @@ pub(crate) fn sum_byte(run: &[u8]) -> u8
 }
 
 // Whether a run's first byte has H = 1 or K = 0.
+#[tactic(auto, unfolding(crate::specs::Iso::wrong_first))]
 fn wrong_first(run: &[u8]) -> bool
     ensures { result ≡ wrong_first run.now }
 {
@@ -45,6 +46,7 @@ fn wrong_first(run: &[u8]) -> bool
 }
 
 // The first of the refusals 1, 2, 3, 9 that applies.
+#[tactic(auto, unfolding(crate::specs::Iso::iso_read_refusal, crate::specs::Iso::iso_read_rules, crate::specs::Refusal::first_broken, crate::specs::Seal::is_sealed_by))]
 fn read_refusal(run: &[u8]) -> u8
     ensures { result ≡ iso_read_refusal run.now }
 {
@@ -82,6 +84,7 @@ pub fn read_iso(run: &[u8]) -> Reading
 }
 
 // The first of the refusals 7, 9, 1, 8 that applies.
+#[tactic(auto, using(crate::proofs::iso::Laws::frame_size_lem), unfolding(crate::specs::Iso::iso_write_refusal, crate::specs::Iso::iso_write_rules, crate::specs::Refusal::first_broken))]
 fn write_refusal(header: &[u8], body: &[u8], room: usize) -> u8
     ensures { result ≡ iso_write_refusal header.now body.now room }
 {

@@ -1,5 +1,6 @@
 // Frames of SAE J1850 with consolidated headers and messages of ISO 9141-2: byte runs to parts, and parts to byte runs.
 #![tactic(auto)]
+
 pub mod bytes;
 pub mod check_byte;
 pub mod count;

@@ -13,6 +13,7 @@ use crate::refusal::{
 use crate::response::{is_checked, is_unassigned, kind_number, response_size};
 
 // The first of the refusals 1, 2, 3, 4, 50, 51, 52, 53, 6 that applies.
+#[tactic(auto, unfolding(crate::specs::Reader::read_refusal, crate::specs::Reader::read_rules, crate::specs::Reader::read_rules_with, crate::specs::Refusal::first_broken, crate::specs::Count::count_refusal, crate::specs::Count::count_rules))]
 fn read_refusal(first: &[u8], response: &[u8]) -> u8
     ensures { result ≡ read_refusal first.now response.now }
 {

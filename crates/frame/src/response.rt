@@ -52,6 +52,7 @@ pub(crate) fn is_checked(kind: ResponseKind) -> bool
 }
 
 // How many of a response's n bytes are not its check byte.
+#[tactic(auto, unfolding(crate::specs::Response::response_size))]
 pub(crate) fn response_size(kind: ResponseKind, n: usize) -> usize
     ensures { result ≡ response_size kind n }
 {

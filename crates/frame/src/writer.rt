@@ -15,6 +15,7 @@ use crate::refusal::{HEADER_WRONG, NO_REFUSAL, OUTPUT_SHORT, TOO_LONG, TYPE_UNAS
 use crate::response::{ResponseKind, is_checked, is_unassigned};
 
 // How many bytes the parts make with their check bytes.
+#[tactic(auto, unfolding(crate::specs::Writer::frame_of, crate::specs::Response::sent, crate::specs::CheckByte::sealed, crate::specs::Seal::sealed_by))]
 fn frame_size(header: &[u8], body: &[u8], response: &[u8]) -> usize
     requires { (length header.now ≤ most_bytes) × (length body.now ≤ most_bytes) × (length response.now ≤ most_bytes) }
     ensures { result ≡ frame_size (frame_of header.now body.now response.now) }
@@ -28,6 +29,7 @@ fn frame_size(header: &[u8], body: &[u8], response: &[u8]) -> usize
 }
 
 // The first of the refusals 7, 4, 50, 51, 53, 1, 8 that applies.
+#[tactic(auto, unfolding(crate::specs::Writer::write_refusal, crate::specs::Writer::write_rules, crate::specs::Writer::write_rules_with, crate::specs::Refusal::first_broken, crate::specs::Count::count_refusal, crate::specs::Count::count_rules))]
 fn write_refusal(header: &[u8], body: &[u8], response: &[u8], room: usize) -> u8
     ensures { result ≡ write_refusal header.now body.now response.now room }
 {
