@@ -50,7 +50,7 @@ demo: $(TOOL) ## run the host tool on the samples
 	grep -v ' 00 7C$$' samples/van.log | $(TOOL) pack - build/van.stream
 	cat build/van.stream samples/damaged.stream | $(TOOL) report --adapter samples/van.sup -
 
-test: ## run everything: the checks, then the proofs, the must-fail edits and the programs, from nothing
+test: ## run everything: the checks, then the proofs, the must-fail edits and the programs
 	bash .ci/run
 
 checks: tables-check peer-tests vectors random tool-test ## run all checks that stand beside the proofs
