@@ -1,10 +1,13 @@
-# The library, the host tool, their checks and a demonstration. Everything that is made stands in build/ and target/.
+# The library, the host tool, their checks and a demonstration. Everything that is made stands in build/ and the crates' out/.
 # `make help` prints what stands behind ## at each target.
 
 ARCHIVE := build/librakhubole.a
+# The crate of the exported calls, and the static library that rt lib builds of it.
+EXPORTS := crates/c_api_c
+PROVED := $(EXPORTS)/out/libc_api_c.a
 PEER := build/peer/release
 CFLAGS := -std=c99 -O2 -Wall -Wextra -Wpedantic -Werror -Iinclude
-CARGO := CARGO_TARGET_DIR=$(CURDIR)/build/peer RAKHUBOLE_ARCHIVE_DIR=$(CURDIR)/target/staticlib cargo
+CARGO := CARGO_TARGET_DIR=$(CURDIR)/build/peer RAKHUBOLE_ARCHIVE_DIR=$(CURDIR)/$(dir $(ARCHIVE)) cargo
 RANDOM_FRAMES := 1000000
 RANDOM_MESSAGES := 500000
 RANDOM_SUPPLEMENTS := 300000
@@ -29,8 +32,8 @@ help: ## list what make can run
 
 archive: ## prove the library and write what a C program links, build/librakhubole.a
 	@mkdir -p build
-	rt staticlib c_api
-	cp target/staticlib/libc_api.a $(ARCHIVE)
+	cd $(EXPORTS) && rt lib
+	cmp -s $(PROVED) $(ARCHIVE) || cp $(PROVED) $(ARCHIVE)
 
 # The host tool, over the header and the archive alone.
 $(TOOL): archive $(TOOL_SOURCES) $(TOOL_HEADERS)
@@ -47,7 +50,7 @@ demo: $(TOOL) ## run the host tool on the samples
 	grep -v ' 00 7C$$' samples/van.log | $(TOOL) pack - build/van.stream
 	cat build/van.stream samples/damaged.stream | $(TOOL) report --adapter samples/van.sup -
 
-test: ## run everything: the checks, then the proofs, the must-fail edits and the programs, from nothing
+test: ## run everything: the checks, then the proofs, the must-fail edits and the programs
 	bash .ci/run
 
 checks: tables-check peer-tests vectors random tool-test ## run all checks that stand beside the proofs
@@ -95,7 +98,7 @@ tool-test: $(TOOL) $(TOOL)-odd ## test the host tool
 	host/tests/properties.py $(TOOL) samples
 
 clean: ## remove everything that was made
-	rm -rf build target
+	rm -rf build crates/*/out
 
 include bench/bench.mk
 include fuzz/fuzz.mk

@@ -4,7 +4,7 @@ use std::env;
 use std::path::Path;
 
 const FOLDER: &str = "RAKHUBOLE_ARCHIVE_DIR";
-const ARCHIVE: &str = "libc_api.a";
+const ARCHIVE: &str = "librakhubole.a";
 
 fn main() {
     println!("cargo:rerun-if-changed=build.rs");
