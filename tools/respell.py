@@ -95,7 +95,18 @@ FUNCTIONS = {m for p in walk('src') if p.endswith('.rt') for m in re.findall(r'\
 
 
 def respelled(part, path=''):
-    """A part of antt in today's spelling, comments' words in camel case too."""
+    """A part of antt in today's spelling; of comments only what stands between backticks."""
+    comment = re.compile(r'((?:^|(?<=\s))--(?=\s)[^\n]*)', re.M)
+    pieces = comment.split(part)
+    for i, piece in enumerate(pieces):
+        if i % 2 == 0:
+            pieces[i] = words(piece, path)
+        else:
+            pieces[i] = re.sub('`[^`]*`', lambda m: words(m.group(0), path), piece)
+    return ''.join(pieces)
+
+
+def words(part, path):
     def one(m):
         name = m.group(0)
         if path.endswith('/Proof.antt') and part[m.start() - 1:m.start()] == '.' and snake(name) in FUNCTIONS:
