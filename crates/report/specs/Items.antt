@@ -1,4 +1,4 @@
--- The line of an item, from its spot and its slot_kind: document 01, "The report".
+-- The line of an item, from its spot and its SLOT: document 01, "The report".
 use Rattle.std.specs.Prelude.{ℕ, List}
 use Rattle.std.proofs.Math.Option.{Option, none, some}
 use Rattle.catalogue.specs.declared.rows.PrnRow.{PrnRow}
@@ -11,12 +11,12 @@ use Rattle.report.specs.Line.{no_prn_reason, place_lost_reason, no_slot_reason}
 use Rattle.report.specs.Bits.{cut}
 use Rattle.report.specs.Scaling.{form_line}
 
--- "no slot_kind of that form, width and number, Unknown 3"; with one, by the form.
+-- "no SLOT of that form, width and number, Unknown 3"; with one, by the form.
 unfoldable pub slot_line : Option SlotRow → PrnRow → List ℕ → ℕ → Line
 slot_line none row bytes at = Unknown no_slot_reason
 slot_line (some slot) row bytes at = form_line row.form row.width slot (cut bytes at row.width)
 
--- "place lost, Unknown 2; an earlier line Short, Short; prn_kind in neither table, Unknown 1 .. item ends past the data, Short"
+-- "place lost, Unknown 2; an earlier line Short, Short; PRN in neither table, Unknown 1 .. item ends past the data, Short"
 unfoldable pub item_line : (ℕ → ℕ → ℕ → Option SlotRow) → List ℕ → Spot → Line
 item_line slots bytes Astray = Unknown place_lost_reason
 item_line slots bytes Beyond = Short

@@ -10,7 +10,7 @@ use Rattle.report.specs.declared.line.Line.TheVariants.{Short, Unknown, Left}
 use Rattle.report.specs.Line.{no_prn_reason, place_lost_reason}
 use Rattle.report.specs.Report.{Group}
 
--- The width of an item as the catalogue knows it; a prn_kind in neither table has none.
+-- The width of an item as the catalogue knows it; a PRN in neither table has none.
 unfoldable pub width_of : Option PrnRow → ℕ
 width_of none = 0
 width_of (some row) = row.width
@@ -20,7 +20,7 @@ unfoldable pub item_widths : (ℕ → Option PrnRow) → List ℕ → ℕ
 item_widths rows [] = 0
 item_widths rows (prn ∷ prns) = width_of (rows prn) + item_widths rows prns
 
--- A line is Short; a line is lost: "prn_kind in neither table, Unknown 1, and the place is lost from here", "place lost, Unknown 2".
+-- A line is Short; a line is lost: "PRN in neither table, Unknown 1, and the place is lost from here", "place lost, Unknown 2".
 abbrev pub ShowsShort : List Line → Type 0
 ShowsShort ls = Memᴰ Short ls
 

@@ -3,7 +3,7 @@ use Rattle.std.specs.Prelude.{ℕ, Bool, true, false, not, eqb}
 use Rattle.report.specs.declared.line.Line.{Line}
 use Rattle.report.specs.declared.line.Line.TheVariants.{Number, State, Bits, Text, Digits, Invalid, Short, Unknown, Left, Answered}
 
--- "prn_kind in neither table, Unknown 1"; "place lost, Unknown 2"; "no slot_kind of that form, width and number, Unknown 3"
+-- "PRN in neither table, Unknown 1"; "place lost, Unknown 2"; "no SLOT of that form, width and number, Unknown 3"
 abbrev pub no_prn_reason : ℕ
 no_prn_reason = 1
 
@@ -13,7 +13,7 @@ place_lost_reason = 2
 abbrev pub no_slot_reason : ℕ
 no_slot_reason = 3
 
--- "form bmm, sfp or pkt, Unknown 4", and a width that holds no whole characters or digits; sed outside the raw limits, Unknown 5;
+-- "form BMM, SFP or PKT, Unknown 4", and a width that holds no whole characters or digits; SED outside the raw limits, Unknown 5;
 -- "width over 32, Unknown 6"
 abbrev pub not_shown_reason : ℕ
 not_shown_reason = 4

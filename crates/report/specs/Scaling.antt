@@ -1,4 +1,4 @@
--- The line of an item whose slot_kind is known: document 01, "The report", by form.
+-- The line of an item whose SLOT is known: document 01, "The report", by form.
 use Rattle.std.specs.Prelude.{ℕ, zero, suc, ◌+◌, ◌-◌, ◌*◌, ◌/◌, ◌%◌, ◌^◌, Bool, true, cond, ◌&&◌, eqb, leb, ltb, ℤ, pos, neg_ℤ, ◌+ℤ◌, ◌*ℤ◌, Float}
 use Rattle.std.specs.Float.{binary64}
 use Rattle.std.specs.Float.Ieee.{of_int, div}
@@ -16,11 +16,11 @@ widest_shown = 32
 unfoldable pub signed : ℕ → ℤ
 signed p = cond (ltb p (2 ^ 31)) (pos p) (neg_ℤ (pos (2 ^ 32 - p)))
 
--- The raw number as a 32-bit pattern: for snm the item's sign bit fills the bits before it.
+-- The raw number as a 32-bit pattern: for SNM the item's sign bit fills the bits before it.
 unfoldable pub pattern : ℕ → ℕ → ℕ → ℕ
 pattern form width raw = cond (eqb form snm && leb (2 ^ (width - 1)) raw) (raw + (2 ^ 32 - 2 ^ width)) raw
 
--- N: "the raw number; for snm, two's complement".
+-- N: "the raw number; for SNM, two's complement".
 unfoldable pub raw_number : ℕ → ℕ → ℕ → ℤ
 raw_number form width raw = cond (eqb form snm) (signed (pattern form width raw)) (pos raw)
 
@@ -35,7 +35,7 @@ quotient n d = div binary64 (of_int binary64 n) (of_int binary64 (pos d))
 unfoldable pub number_line : SlotRow → ℕ → Line
 number_line slot raw = Number (quotient (above slot raw) slot.divisor) (above slot raw) slot.divisor
 
--- Whether the raw number is within the SLOT's limits, as signed for snm.
+-- Whether the raw number is within the SLOT's limits, as signed for SNM.
 unfoldable pub within_limits : SlotRow → ℕ → Bool
 within_limits slot raw =
     let p : ℕ = pattern slot.form slot.width raw in
@@ -53,17 +53,17 @@ printable b = leb 0x20 b && leb b 0x7E
 abbrev pub decimal : ℕ → Bool
 decimal d = leb d 9
 
--- "asc: width no multiple of 8, Unknown 4; a byte outside 20h to 7Eh, Invalid; else Text."
+-- "ASC: width no multiple of 8, Unknown 4; a byte outside 20h to 7Eh, Invalid; else Text."
 unfoldable pub text_line : ℕ → ℕ → Line
 text_line width raw =
     cond (eqb (width % 8) 0) (cond (digits_pass printable 8 (width / 8) raw) (Text raw) (Invalid raw)) (Unknown not_shown_reason)
 
--- "bcd: width no multiple of 4, Unknown 4; a digit over 9, Invalid; else Digits."
+-- "BCD: width no multiple of 4, Unknown 4; a digit over 9, Invalid; else Digits."
 unfoldable pub digits_line : ℕ → ℕ → Line
 digits_line width raw =
     cond (eqb (width % 4) 0) (cond (digits_pass decimal 4 (width / 4) raw) (Digits raw) (Invalid raw)) (Unknown not_shown_reason)
 
--- "form bmm, sfp or pkt, Unknown 4; width over 32, Unknown 6. Then by form"
+-- "form BMM, SFP or PKT, Unknown 4; width over 32, Unknown 6. Then by form"
 unfoldable pub form_line : ℕ → ℕ → SlotRow → ℕ → Line
 form_line form width slot raw =
     cond (leb bmm form) (Unknown not_shown_reason)

@@ -7,7 +7,7 @@ use Rattle.report.specs.declared.spots.Place.TheVariants.{Bit, Lost, Past}
 use Rattle.report.specs.declared.spots.Spot.{Spot}
 use Rattle.report.specs.declared.spots.Spot.TheVariants.{Astray, Beyond, Rowless, Over, Lies}
 
--- An item that begins at a bit, by its PRN's row and the bit where items end: "prn_kind in neither table"; "item ends past the data".
+-- An item that begins at a bit, by its PRN's row and the bit where items end: "PRN in neither table"; "item ends past the data".
 unfoldable pub spot_at : Option PrnRow → ℕ → ℕ → Spot
 spot_at none to at = Rowless
 spot_at (some row) to at = cond (ltb to (at + row.width)) Over (Lies row at)

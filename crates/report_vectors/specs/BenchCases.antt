@@ -15,7 +15,7 @@ use Rattle.report.specs.declared.line.Line.TheVariants.{Number, Invalid, Unknown
 use Rattle.report.specs.Scaling.{form_line}
 use Rattle.report.specs.Answer.{Answer, refused, shown, j1850_answer}
 
--- An item: its slot_kind, its raw number and the line expected. A frame of J1850: its two runs and the refusal expected. A message of
+-- An item: its SLOT, its raw number and the line expected. A frame of J1850: its two runs and the refusal expected. A message of
 -- ISO 9141-2: its run and the refusal expected. A report: its supplement, its first run, how many bytes are lent, and the answer expected.
 pub data Case : Type 0 where
   item : Option SlotRow → ℕ → Line → Case
@@ -27,7 +27,7 @@ pub data Case : Type 0 where
 abbrev pub number : ℤ → ℤ → ℕ → Line
 number value n d = Number (of_int binary64 value) n d
 
--- P9 and P10: "snm width 8, multiplier and divisor 1, offset 0, limits -128 to 127".
+-- P9 and P10: "SNM width 8, multiplier and divisor 1, offset 0, limits -128 to 127".
 abbrev pub signed_byte : SlotRow
 signed_byte = slot snm 8 1 1 1 0 (neg 128) 127
 
@@ -78,7 +78,7 @@ whole_cases =
     (shown (whole_numbers ++ 9 ∷ 8 ∷ 10 ∷ 0 ∷ 11 ∷ 2 ∷ []))
     ∷ []
 
--- A layout of header 08h 6Bh with one prn_kind, and with none; a kind 4 record of that header.
+-- A layout of header 08h 6Bh with one PRN, and with none; a kind 4 record of that header.
 abbrev pub one_item : ℕ → ℕ → ℕ → ℕ → ℕ → List ℕ
 one_item size a b high low = 3 ∷ 0x08 ∷ 0x6B ∷ size ∷ a ∷ b ∷ 1 ∷ high ∷ low ∷ replicate 30 0
 
@@ -96,7 +96,7 @@ small double n = 1 ∷ 0x40 ∷ double ∷ 0x40 ∷ 0 ∷ 0 ∷ 0 ∷ 0 ∷ 0 �
 abbrev pub short_frame : List ℕ
 short_frame = 0x48 ∷ 0x6B ∷ 0x10 ∷ 0x41 ∷ 0x65 ∷ 0x43 ∷ []
 
--- prn_kind 1025h, 8 bits.
+-- PRN 1025h, 8 bits.
 abbrev pub one_byte_selector : List ℕ
 one_byte_selector = one_item 1 0x41 0 0x10 0x25
 
@@ -112,7 +112,7 @@ no_selector_rows = small 0x50 0x41 ++ 9 ∷ 8 ∷ 10 ∷ 0 ∷ 11 ∷ 2 ∷ []
 -- Document 02, K5, in reports.
 unfoldable pub selector_cases : List Case
 selector_cases =
-    -- a J1979 answer with test mode and PID as selector, prn_kind 000Ch (16 bits): 1726 as 6904/4
+    -- a J1979 answer with test mode and PID as selector, PRN 000Ch (16 bits): 1726 as 6904/4
     report (selector 2 ++ one_item 2 0x41 0x0C 0 0x0C) (0x48 ∷ 0x6B ∷ 0x10 ∷ 0x41 ∷ 0x0C ∷ 0x1A ∷ 0xF8 ∷ 0xB2 ∷ []) 25
     (shown (1 ∷ 0x40 ∷ 0x9A ∷ 0xF8 ∷ 0 ∷ 0 ∷ 0 ∷ 0 ∷ 0 ∷ 0 ∷ 0 ∷ 0 ∷ 0 ∷ 0 ∷ 0 ∷ 0x1A ∷ 0xF8 ∷ 0 ∷ 4 ∷ 9 ∷ 0 ∷ 10 ∷ 0 ∷ 11 ∷ 1 ∷ []))
     -- a header with length 0 whose first data byte is its first item
@@ -171,7 +171,7 @@ iso_cases =
     ∷ message (0x60 ∷ 0x6A ∷ 0xF1 ∷ 0xBC ∷ []) 3
     ∷ []
 
--- The line of a raw number by its slot_kind; "no slot_kind of that form, width and number, Unknown 3".
+-- The line of a raw number by its SLOT; "no SLOT of that form, width and number, Unknown 3".
 unfoldable pub line_by : Option SlotRow → ℕ → Line
 line_by none raw = Unknown 3
 line_by (some s) raw = form_line s.form s.width s raw

@@ -105,14 +105,14 @@ own_record rs good key r h f =
     let is = found_record key rs r f in
     (has_kind key r h is.0, (good.each r is.1).range)
 
--- What is found of a prn_kind beside good records is in range: a form from 1 to 9, a width from 1 to 64.
+-- What is found of a PRN beside good records is in range: a form from 1 to 9, a width from 1 to 64.
 pub prn_in_range : (rs : List (List ℕ)) → Good rs → (p : ℕ) (row : PrnRow) → (catalogue_of rs).prn p ≡ some row → prn_fits row ≡ true
 unfolding catalogue_of
 prn_in_range rs good p =
     either (λ (row : PrnRow). prn_fits row ≡ true) prn_row (sae_prn p) (record_with (prn_key p) rs) (λ row h. (sae_prn_fits p row h).1)
     (λ r h. let own = own_record rs good (prn_key p) r (omega arith) h in sym (range_prn r own.0) ∙ own.1)
 
--- What is found of a slot_kind beside good records is in range, a divisor of at least 1 and limits in order, and has the form and width
+-- What is found of a SLOT beside good records is in range, a divisor of at least 1 and limits in order, and has the form and width
 -- that were sought; beside records of bytes its fields have their sizes.
 pub slot_in_range : (rs : List (List ℕ)) → Good rs → (f w n : ℕ) (row : SlotRow) → (catalogue_of rs).slot f w n ≡ some row → slot_fits row ≡ true
 unfolding catalogue_of

@@ -21,7 +21,7 @@ use Rattle.catalogue.proofs.SaeTables.{table_rule}
 use Rattle.catalogue.proofs.rows.Laws.{slot_ranges, SlotSizes, slot_sizes}
 use Rattle.catalogue.proofs.search.Laws.{both, found_is, none_found, first_same, every_is, in_part, row_at, row_past, row_keys, by_key}
 
--- What is found by a prn_kind has that prn_kind and its ranges.
+-- What is found by a PRN has that PRN and its ranges.
 pub sae_prn_fits : (p : ℕ) (row : PrnRow) → sae_prn p ≡ some row → (row.prn ≡ p) × (prn_fits row ≡ true)
 unfolding sae_prn
 sae_prn_fits p row e =
@@ -89,7 +89,7 @@ pub prn_same :
 unfolding sae_prn
 prn_same i n lowest highest p before behind low high = sym (in_part prn_row_key prn_rows i n lowest highest p before behind low high)
 
--- A slot_kind is sought by its packed key.
+-- A SLOT is sought by its packed key.
 slot_packed : (f w n : ℕ) → w < 256 → n < 65536 → first_where (λ r. key_is (packed f w n) (slot_row_key r)) slot_rows ≡ sae_slot f w n
 unfolding sae_slot
 slot_packed f w n hw hn =
@@ -99,7 +99,7 @@ slot_packed f w n hw hn =
     let t = slot_ranges r (every_is slot_fits slot_rows table_rule.slot_fits_lem r m) in
     packed_is r.form r.width r.number f w n (omega (arith, t.key.width_most)) (omega (arith, s.number)) hw hn)
 
--- No SAE slot_kind has a number of two bytes.
+-- No SAE SLOT has a number of two bytes.
 small_numbers : every (λ r. ltb r.number 256) slot_rows ≡ true
 unfolding slot_rows every
 small_numbers = refl
@@ -117,7 +117,7 @@ slot_beyond f w n h =
     and_false true = refl
     and_false false = refl
 
--- A part with a PRN's row, if there is one: the row stands at the place of the prn_kind.
+-- A part with a PRN's row, if there is one: the row stands at the place of the PRN.
 module _
     (words : List ℕ) (p at : ℕ) (part : PrnPart p words)
     (placed : get_elem? (take prns_apart words) at ≡ first_where (key_is p) (take prns_apart words))
@@ -141,7 +141,7 @@ module _
     pub prn_gone : prns_apart ≤ at → none ≡ sae_prn p
     prn_gone h = sym (row_past (prn_at words) 0 prns_apart at h) ∙ prn_placed
 
--- The same for a slot_kind.
+-- The same for a SLOT.
 module _
     (words : List ℕ) (f w n at : ℕ) (hw : w < 2 ^ 8) (hn : n < 2 ^ 16) (part : SlotPart (packed f w n) words)
     (placed : get_elem? (take slots_apart words) at ≡ first_where (key_is (packed f w n)) (take slots_apart words))

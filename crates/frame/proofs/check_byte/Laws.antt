@@ -64,7 +64,7 @@ pub register_end : (s : List ℕ) (i r : ℕ) → length s ≤ i → register r 
 unfolding register
 register_end s i r h = rw (drop_of_length-le s {i = i} h)
 
--- Only all ones goes to the residue_lem in the steps of a byte.
+-- Only all ones goes to the residue in the steps of a byte.
 residue_test : ℕ → Bool
 residue_test x = not (eqb (steps byte_bits x) residue) || eqb x all_ones
 

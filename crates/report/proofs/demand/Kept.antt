@@ -96,7 +96,7 @@ unfolding remainder_at
 remainder_kept to p q (inl e) = inl (ap (remainder_at to) e)
 remainder_kept to p q (inr e) = inr (ap (λ (r : Place). is_unknown (remainder_at to r)) e)
 
--- The line of an item follows from its spot and its slot_kind.
+-- The line of an item follows from its spot and its SLOT.
 slot_kept :
     (o q : Option SlotRow)
     → ((r : SlotRow) → o ≡ some r → q ≡ some r)

@@ -18,7 +18,7 @@ use Rattle.report.specs.Inner.{HoldsFraction, AllHold}
 use Rattle.report.proofs.bits.Laws.{cut_lt}
 use Rattle.report.proofs.scaling.Laws.{Scales, form_holds}
 
--- Every slot_kind that is found has the width that was sought, and fields within their ranges and sizes.
+-- Every SLOT that is found has the width that was sought, and fields within their ranges and sizes.
 abbrev pub AllScale : (ℕ → ℕ → ℕ → Option SlotRow) → Type 0
 AllScale slots = (f w n : ℕ) (slot : SlotRow) → slots f w n ≡ some slot → Scales w slot
 

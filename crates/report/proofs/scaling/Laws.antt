@@ -182,7 +182,7 @@ module _ (p : ℕ → Bool) (size n i x : ℕ) where
       let e : n - i ≡ 0 = omega arith in
       ap (λ (k : ℕ). digits_pass p size k x) e
 
--- The line of each form, up to bcd and of at most 32 bits.
+-- The line of each form, up to BCD and of at most 32 bits.
 module _ (width : ℕ) (slot : SlotRow) (raw : ℕ) (h : width ≤ widest_shown) where
   pub scaled_is : (form : ℕ) → form ≤ snm → form_line form width slot raw ≡ cond (within_limits slot raw) (number_line slot raw) (Invalid raw)
   unfolding form_line
@@ -244,7 +244,7 @@ form_among P form width slot raw number state bits text digits invalid u4 u5 u6 
     of true a b = a
     of false a b = b
 
--- A slot_kind that an item of a width can have: of that width, in range, and its fields of their sizes.
+-- A SLOT that an item of a width can have: of that width, in range, and its fields of their sizes.
 pub record Scales (w : ℕ) (slot : SlotRow) : Type 0 where
   pub width : slot.width ≡ w
   pub ranges : SlotRanges slot

@@ -62,7 +62,7 @@ lying_wider to most Rowless h l = tt
 lying_wider to most Over h l = tt
 lying_wider to most (Lies row at) h l = (l.0, omega (arith, l.1))
 
--- One prn_kind more: one spot more, from the place behind the others.
+-- One PRN more: one spot more, from the place behind the others.
 module _ (rows : ℕ → Option PrnRow) (to : ℕ) where
   pub spots_snoc :
       (prns : List ℕ) (prn : ℕ) (place : Place)
