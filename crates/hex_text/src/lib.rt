@@ -1,5 +1,6 @@
 // Hexadecimal text to bytes and back, and the first bytes of a buffer, for the programs that run vector files.
 #![tactic(auto)]
+
 ghost use Rattle.std.specs.Prelude.{◌≡◌, ◌/◌, ◌<◌, min, get_or, length, take};
 ghost use Rattle.hex_text.specs.Digits.{digit_value, byte_from, bytes_from};
 ghost use Rattle.hex_text.specs.Digits.{byte_digits, last_digit, text_of, text_length, text_over};
