@@ -1,5 +1,6 @@
 // The stream of a cable adapter: records that come in parts, cut anywhere.
 #![tactic(auto)]
+
 pub mod reader;
 pub mod record;
 pub mod refusal;

@@ -5,7 +5,7 @@ use Rattle.frame.specs.Refusal.{refused}
 use Rattle.stream.specs.Refusal.{stream_kind_unknown, stream_record_wrong}
 use Rattle.stream.specs.Record.{frame_kind, tick_kind, kind_of, is_unknown_kind, tells}
 use Rattle.stream.specs.Stream.{Event}
-use Rattle.stream.specs.Reader.{Position, passed, event_at, reach, told, cut_refusal}
+use Rattle.stream.specs.Reader.{Position, passed, event_at, reach, cut_refusal}
 use Rattle.stream.specs.Calls.{Form, call}
 use Rattle.stream.specs.Cuts.{BetweenCalls, Keeping, NoMore}
 use Rattle.stream.proofs.record.Laws.{told_by}

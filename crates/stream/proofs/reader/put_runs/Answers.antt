@@ -1,5 +1,5 @@
 -- After i turns the first i bytes are copied.
-use Rattle.std.proofs.Common.{◌≡◌, ◌-◌, length, ap, ◌∙◌, arith}
+use Rattle.std.proofs.Common.{◌≡◌, length, ap, ◌∙◌, arith}
 use lib.Seq.{paste}
 use Rattle.frame.proofs.bytes.Placed.{pasted}
 use Rattle.stream.proofs.reader.put_runs.Goals as goal

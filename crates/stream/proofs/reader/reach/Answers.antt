@@ -1,5 +1,5 @@
 -- Byte by byte, from a state with no whole record.
-use Rattle.std.proofs.Common.{◌≡◌, ℕ, ◌+◌, ◌<◌, cond, List, length, get_or, set, ap, ◌∙◌, arith}
+use Rattle.std.proofs.Common.{ℕ, ◌+◌, ◌<◌, cond, List, get_or, set, ap, ◌∙◌, arith}
 use Rattle.stream.specs.declared.state.StreamState.{StreamState}
 use Rattle.stream.specs.Record.{frame_record_size}
 use Rattle.stream.specs.Reader.{Position, with_byte}

@@ -1,5 +1,5 @@
 -- What is reached is told, from any state.
-use Rattle.std.proofs.Common.{◌≡◌, List, ℕ, length, sym, ap, ◌∙◌}
+use Rattle.std.proofs.Common.{List, ℕ, length, sym, ap, ◌∙◌}
 use mathlib.Core.Option.{Option}
 use Rattle.frame.specs.Frame.{Frame}
 use Rattle.frame.specs.Refusal.{Outcome}

@@ -1,5 +1,5 @@
 -- The test of the whole is that of what is not yet looked at.
-use Rattle.std.proofs.Common.{◌-◌, sym, ap, ◌∙◌, add-one, arith, drop_of_length-le}
+use Rattle.std.proofs.Common.{sym, ap, ◌∙◌, add-one, arith, drop_of_length-le}
 use Rattle.stream.specs.Record.{all_zero}
 use Rattle.stream.proofs.record.Laws.{zero_past, zero_not}
 use Rattle.stream.proofs.record.all_zero.Goals as goal

@@ -1,5 +1,5 @@
 -- After i turns the first i of the bytes held are copied.
-use Rattle.std.proofs.Common.{◌≡◌, ◌-◌, length, drop, replicate, sym, zero-add, arith, length-drop, get_or-drop}
+use Rattle.std.proofs.Common.{◌≡◌, length, drop, replicate, sym, zero-add, arith, length-drop, get_or-drop}
 use Rattle.stream.specs.Record.{frame_record_size}
 use Rattle.stream.specs.State.{held_place, most_held}
 use Rattle.stream.proofs.state.Copied.{copied}
