@@ -1,2 +1,3 @@
 -- Laws of the SAE tables.
 pub mod Laws
+pub mod Parts

@@ -1,5 +1,6 @@
 // The catalogue: the SAE tables and a supplement of records together.
 #![tactic(auto)]
+
 mod filter;
 pub mod kind;
 pub mod lookup;

@@ -29,6 +29,7 @@ pub(crate) const LAYOUT_COUNT: usize = 6;
 
 pub(crate) const LAYOUT_PRNS: usize = 7;
 
+#[tactic(auto, unfolding(crate::specs::Record::two))]
 pub(crate) fn two_at(bytes: &[u8], i: usize) -> u16
     requires { i < 64 }
     ensures { result ≡ two bytes.now i }
@@ -40,6 +41,7 @@ pub(crate) fn two_at(bytes: &[u8], i: usize) -> u16
     }
 }
 
+#[tactic(auto, unfolding(crate::specs::Record::four))]
 pub(crate) fn four_at(bytes: &[u8], i: usize) -> u32
     requires { i < 60 }
     ensures { result ≡ four bytes.now i }
@@ -49,6 +51,7 @@ pub(crate) fn four_at(bytes: &[u8], i: usize) -> u32
     high as u32 * 65536 + low as u32
 }
 
+#[tactic(auto, unfolding(crate::specs::Record::slot_row))]
 pub(crate) fn slot_of(bytes: &[u8]) -> SlotRow
     ensures { result ≡ slot_row bytes.now }
 {
@@ -64,6 +67,7 @@ pub(crate) fn slot_of(bytes: &[u8]) -> SlotRow
     }
 }
 
+#[tactic(auto, unfolding(crate::specs::Record::prn_row))]
 pub(crate) fn prn_of(bytes: &[u8]) -> PrnRow
     ensures { result ≡ prn_row bytes.now }
 {
@@ -113,6 +117,7 @@ fn all_zero(bytes: &[u8], from: usize) -> bool
     any == 0
 }
 
+#[tactic(auto, unfolding(crate::specs::Record::header_fits))]
 fn header_fits(first: u8, target: u8) -> bool
     ensures { result ≡ header_fits first target }
 {
@@ -124,6 +129,7 @@ fn header_fits(first: u8, target: u8) -> bool
 }
 
 // The header and the selector's length, of a layout too.
+#[tactic(auto, unfolding(crate::specs::Record::selector_fits))]
 fn selector_fits(bytes: &[u8]) -> bool
     ensures { result ≡ selector_fits bytes.now }
 {
@@ -144,6 +150,7 @@ fn unused_zero(bytes: &[u8]) -> bool
     all_zero(&selector, byte_at(bytes, SELECTOR_LENGTH) as usize)
 }
 
+#[tactic(auto, unfolding(crate::specs::Record::layout_fits))]
 fn layout_fits(bytes: &[u8]) -> bool
     ensures { result ≡ layout_fits bytes.now }
 {
@@ -161,6 +168,7 @@ fn layout_fits(bytes: &[u8]) -> bool
 }
 
 // Whether every field is in its range; nothing of an unknown kind is.
+#[tactic(auto, unfolding(crate::specs::Record::in_range))]
 pub(crate) fn in_range(bytes: &[u8]) -> bool
     ensures { result ≡ in_range bytes.now }
 {
@@ -181,6 +189,7 @@ pub(crate) fn in_range(bytes: &[u8]) -> bool
 }
 
 // Whether the key is in the SAE tables, which have SLOTs and PRNs. Only the key is read: to read the whole row takes longer.
+#[tactic(auto, unfolding(crate::specs::Record::in_sae, crate::specs::Record::slot_row, crate::specs::Record::prn_row))]
 pub(crate) fn in_sae(bytes: &[u8]) -> bool
     ensures { result ≡ in_sae bytes.now }
 {

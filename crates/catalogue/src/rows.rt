@@ -59,6 +59,7 @@ pub enum SlotFound {
 }
 
 // Whether form and width are in range.
+#[tactic(auto, unfolding(crate::specs::Rows::key_fits))]
 fn key_fits(form: u8, width: u8) -> bool
     ensures { result ≡ key_fits form width }
 {
@@ -82,6 +83,7 @@ fn raised(pattern: u32) -> u64
 }
 
 // Whether the lowest raw number is not above the highest, as signed for SNM.
+#[tactic(auto, unfolding(crate::specs::Rows::in_order))]
 pub fn in_order(form: u8, lowest: u32, highest: u32) -> bool
     ensures { result ≡ in_order form lowest highest }
 {
@@ -92,12 +94,14 @@ pub fn in_order(form: u8, lowest: u32, highest: u32) -> bool
     }
 }
 
+#[tactic(auto, unfolding(crate::specs::Rows::prn_fits))]
 pub(crate) fn prn_fits(row: PrnRow) -> bool
     ensures { result ≡ prn_fits row }
 {
     key_fits(row.form, row.width)
 }
 
+#[tactic(auto, unfolding(crate::specs::Rows::slot_fits))]
 pub(crate) fn slot_fits(row: SlotRow) -> bool
     ensures { result ≡ slot_fits row }
 {

@@ -21,6 +21,7 @@ const HIGHEST: usize = 4 * SLOTS_A_PART;
 const HIGHEST_NUMBER: u16 = 255;
 
 // The part of the table that has a PRN if any has. A constant array is built where it is named, so it is the only part built.
+#[tactic(auto, using(crate::proofs::sae::Parts::prn_told), unfolding(crate::specs::Tables::prn_rows, crate::specs::Inner::rows_from, crate::specs::Search::every, crate::specs::Search::rising, crate::proofs::sae::Parts::rows_below))]
 fn prn_part(prn: u16) -> [u32; 2 * PRNS_A_PART]
     ensures { PrnPart prn result }
 {
@@ -57,6 +58,7 @@ fn prn_part(prn: u16) -> [u32; 2 * PRNS_A_PART]
 }
 
 // The same for the key of a SLOT.
+#[tactic(auto, using(crate::proofs::sae::Parts::slot_told), unfolding(crate::specs::Tables::slot_rows, crate::specs::Inner::rows_from, crate::specs::Search::every, crate::specs::Search::rising, crate::proofs::sae::Parts::rows_below))]
 fn slot_part(key: u32) -> [u32; 5 * SLOTS_A_PART]
     ensures { SlotPart key result }
 {
@@ -141,6 +143,7 @@ pub(crate) fn slot_row(form: u8, width: u8, number: u16) -> SlotFound
 }
 
 // Whether a PRN is in the SAE tables.
+#[tactic(auto, unfolding(crate::specs::Search::is_found))]
 pub(crate) fn has_prn(prn: u16) -> bool
     ensures { result ≡ is_found (sae_prn prn) }
 {
@@ -152,6 +155,7 @@ pub(crate) fn has_prn(prn: u16) -> bool
 }
 
 // Whether a SLOT is in the SAE tables.
+#[tactic(auto, unfolding(crate::specs::Search::is_found))]
 pub(crate) fn has_slot(form: u8, width: u8, number: u16) -> bool
     ensures { result ≡ is_found (sae_slot form width number) }
 {

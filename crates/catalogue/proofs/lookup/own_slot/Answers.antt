@@ -1,0 +1,10 @@
+-- The record that the key finds, if any, field by field.
+use Rattle.catalogue.specs.Record.{slot_row}
+use Rattle.catalogue.proofs.lookup.Own.{row_missing, row_found}
+use Rattle.catalogue.proofs.lookup.own_slot.Goals as goal
+
+pub returns-then-bytes-eq0 : goal.returns-then-bytes-eq0
+returns-then-bytes-eq0 c = row_missing slot_row _ c.bytes_with-bytes.ensures c.if-bytes-eq0.true
+
+pub returns : goal.returns
+returns c = row_found slot_row _ c.bytes_with-bytes.ensures c.if-bytes-eq0.false c.slot_of.ensures
