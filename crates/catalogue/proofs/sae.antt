@@ -1,3 +1,3 @@
 -- Laws of the SAE tables.
 pub mod Laws
-pub mod Parts
+pub mod Part

@@ -15,7 +15,7 @@ pub const SELECTOR: u8 = 4;
 pub const MOST_PRNS: usize = 16;
 
 // Bytes of a record by its kind; an unknown kind is one byte.
-#[tactic(auto, unfolding(crate::specs::Kind::record_size, crate::specs::Kind::or_unknown, crate::specs::Kind::kind_found, crate::specs::Kind::kinds, crate::specs::Search::first_where))]
+#[tactic(auto, using(crate::proofs::kind::Laws::record_sizes, crate::proofs::kind::Laws::size_unlisted))]
 pub(crate) fn record_size(kind: u8) -> usize
     ensures { result ≡ record_size kind }
 {
@@ -29,7 +29,7 @@ pub(crate) fn record_size(kind: u8) -> usize
 }
 
 // Bytes of kind and key together.
-#[tactic(auto, unfolding(crate::specs::Kind::key_size, crate::specs::Kind::or_unknown, crate::specs::Kind::kind_found, crate::specs::Kind::kinds, crate::specs::Search::first_where))]
+#[tactic(auto, using(crate::proofs::kind::Laws::key_sizes, crate::proofs::kind::Laws::key_unlisted))]
 pub(crate) fn key_size(kind: u8) -> usize
     ensures { result ≡ key_size kind }
 {

@@ -1,6 +1,7 @@
 // A record of a supplement: its key and its fields.
 ghost use Rattle.std.specs.Prelude.{◌≡◌, ◌<◌, drop};
-ghost use Rattle.catalogue.specs.Record.{has_key, two, four, slot_row, prn_row, all_zero, header_fits, selector_length, selector_bytes, selector_fits, layout_fits, in_range, in_sae};
+ghost use Rattle.catalogue.specs.Record.{has_key, two, four, slot_row, prn_row, all_zero};
+ghost use Rattle.catalogue.specs.Record.{header_fits, selector_length, selector_bytes, selector_fits, layout_fits, in_range, in_sae};
 
 use crate::kind::{LAYOUT, MOST_PRNS, PRN, SELECTOR, SLOT};
 use crate::rows::{PrnRow, SlotRow, prn_fits, slot_fits};
@@ -80,6 +81,7 @@ pub(crate) fn prn_of(bytes: &[u8]) -> PrnRow
 }
 
 // Whether a record starts with that kind and key.
+#[tactic(auto, using(crate::proofs::record::Laws::key_ends, crate::proofs::record::Laws::key_unlike, crate::proofs::record::Laws::key_same))]
 pub(crate) fn has_key(key: &[u8], bytes: &[u8]) -> bool
     ensures { result ≡ has_key key.now bytes.now }
 {
@@ -105,6 +107,7 @@ pub(crate) fn has_key(key: &[u8], bytes: &[u8]) -> bool
 }
 
 // Whether every byte from a place on is zero.
+#[tactic(auto, using(crate::proofs::record::Laws::zero_ends, crate::proofs::record::Laws::zero_next))]
 fn all_zero(bytes: &[u8], from: usize) -> bool
     ensures { result ≡ all_zero (drop from bytes.now) }
 {

@@ -21,7 +21,7 @@ const HIGHEST: usize = 4 * SLOTS_A_PART;
 const HIGHEST_NUMBER: u16 = 255;
 
 // The part of the table that has a PRN if any has. A constant array is built where it is named, so it is the only part built.
-#[tactic(auto, using(crate::proofs::sae::Parts::prn_told), unfolding(crate::specs::Tables::prn_rows, crate::specs::Inner::rows_from, crate::specs::Search::every, crate::specs::Search::rising, crate::proofs::sae::Parts::rows_below))]
+#[tactic(auto, using(crate::proofs::sae::Part::prn), unfolding(crate::specs::Tables::prn_rows, crate::specs::Inner::rows_from, crate::specs::Search::rising))]
 fn prn_part(prn: u16) -> [u32; 2 * PRNS_A_PART]
     ensures { PrnPart prn result }
 {
@@ -58,7 +58,7 @@ fn prn_part(prn: u16) -> [u32; 2 * PRNS_A_PART]
 }
 
 // The same for the key of a SLOT.
-#[tactic(auto, using(crate::proofs::sae::Parts::slot_told), unfolding(crate::specs::Tables::slot_rows, crate::specs::Inner::rows_from, crate::specs::Search::every, crate::specs::Search::rising, crate::proofs::sae::Parts::rows_below))]
+#[tactic(auto, using(crate::proofs::sae::Part::slot), unfolding(crate::specs::Tables::slot_rows, crate::specs::Inner::rows_from, crate::specs::Search::rising))]
 fn slot_part(key: u32) -> [u32; 5 * SLOTS_A_PART]
     ensures { SlotPart key result }
 {
@@ -97,6 +97,7 @@ fn slot_part(key: u32) -> [u32; 5 * SLOTS_A_PART]
 }
 
 // The SAE row of a PRN.
+#[tactic(auto, using(crate::proofs::sae::Laws::prn_there, crate::proofs::sae::Laws::prn_gone))]
 pub(crate) fn prn_row(prn: u16) -> PrnFound
     ensures { prn_of result ≡ sae_prn prn }
 {
@@ -116,6 +117,7 @@ pub(crate) fn prn_row(prn: u16) -> PrnFound
 }
 
 // The SAE row of a SLOT, whose key is one number: form, then width, then number.
+#[tactic(auto, using(crate::proofs::sae::Laws::slot_beyond, crate::proofs::sae::Laws::slot_gone))]
 pub(crate) fn slot_row(form: u8, width: u8, number: u16) -> SlotFound
     ensures { slot_of result ≡ sae_slot form width number }
 {

@@ -1,13 +1,14 @@
 -- Laws of kinds: what holds of each by one computed test, and so at every number.
 use mathlib.Core.Path.{◌≡◌, refl, sym, ap}
-use mathlib.Core.Bool.{true, false, not, ◌&&◌, true≢false}
+use mathlib.Core.Bool.{true, not, ◌&&◌, true≢false}
 use mathlib.Core.Option.{Option, none, some}
 use Prim.Native.Nat.{ℕ, ◌≤◌}
 use native.Mathlib.Omega.{arith}
 use borrow.Author.Tests.{leb-true, ltb-true, lt-leb, ne_eqb}
 use lib.Dec.{eqb, leb, ltb}
 use Rattle.catalogue.specs.Search.{first_where, is_found, every}
-use Rattle.catalogue.specs.Kind.{slot_kind, prn_kind, layout_kind, selector_kind, Kind, kinds, kind_holds, kinds_hold, kind_found, known, or_unknown, record_size, key_size}
+use Rattle.catalogue.specs.Kind.{slot_kind, prn_kind, layout_kind, selector_kind}
+use Rattle.catalogue.specs.Kind.{Kind, kinds, kind_holds, kinds_hold, kind_found, known, or_unknown, record_size, key_size}
 use Rattle.catalogue.proofs.search.Laws.{both, found_is, every_is}
 
 kinds_hold_lem : kinds_hold ≡ true
@@ -18,6 +19,11 @@ kinds_hold_lem = refl
 pub key_sizes : (key_size slot_kind ≡ 5) × (key_size prn_kind ≡ 3) × (key_size layout_kind ≡ 6) × (key_size selector_kind ≡ 3)
 unfolding key_size or_unknown kind_found kinds first_where
 key_sizes = (refl, refl, refl, refl)
+
+-- The bytes of a record, kind by kind.
+pub record_sizes : (record_size slot_kind ≡ 21) × (record_size prn_kind ≡ 7) × (record_size layout_kind ≡ 39) × (record_size selector_kind ≡ 4)
+unfolding record_size or_unknown kind_found kinds first_where
+record_sizes = (refl, refl, refl, refl)
 
 pub layout_size : record_size layout_kind ≡ 39
 unfolding record_size or_unknown kind_found kinds first_where

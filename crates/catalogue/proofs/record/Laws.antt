@@ -82,7 +82,11 @@ module _ (r : List ℕ) where
   range_selector e = rw e
 
   pub range_unknown :
-      (record_kind r ≡ slot_kind → ⊥) → (record_kind r ≡ prn_kind → ⊥) → (record_kind r ≡ layout_kind → ⊥) → (record_kind r ≡ selector_kind → ⊥) → in_range r ≡ false
+      (record_kind r ≡ slot_kind → ⊥)
+      → (record_kind r ≡ prn_kind → ⊥)
+      → (record_kind r ≡ layout_kind → ⊥)
+      → (record_kind r ≡ selector_kind → ⊥)
+      → in_range r ≡ false
   unfolding in_range
   range_unknown a b c d =
       rw (ne_eqb (record_kind r) slot_kind a, ne_eqb (record_kind r) prn_kind b, ne_eqb (record_kind r) layout_kind c, ne_eqb (record_kind r) selector_kind d)
