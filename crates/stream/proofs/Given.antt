@@ -1,5 +1,6 @@
 -- What holds of every frame that the reader of a stream gives.
-use Rattle.std.proofs.Common.{◌≡◌, ℕ, ◌+◌, ◌≤◌, Bool, true, false, cond, ◌||◌, eqb, ltb, List, length, drop, sym, refl, ◌∙◌, subst, arith, length-take, ltb-true, le-ltb}
+use Rattle.std.proofs.Common.{◌≡◌, ℕ, ◌+◌, ◌≤◌, Bool, true, false, cond, ◌||◌, eqb, ltb, List, length, drop, sym, refl, ◌∙◌, subst, arith}
+use Rattle.std.proofs.Common.{length-take, ltb-true, le-ltb}
 use mathlib.Core.Option.{Option, none, some}
 use mathlib.Core.Option.{map}
 use Rattle.frame.specs.Frame.{Frame, frame_size, most_bytes}

@@ -1,5 +1,7 @@
 -- Frames and their records, there and back: demand 2 for the adapter's records.
-use Rattle.std.proofs.Common.{◌≡◌, ℕ, zero, suc, ◌+◌, ◌-◌, ◌≤◌, Bool, true, false, cond, ◌&&◌, eqb, List, [], ◌∷◌, ◌++◌, length, take, drop, replicate, sym, refl, ap, ◌∙◌, append_assoc, arith, length-append, length-drop, take-append-drop, drop-drop, take_at, drop_at, eqb-true}
+use Rattle.std.proofs.Common.{◌≡◌, ℕ, zero, suc, ◌+◌, ◌-◌, ◌≤◌, Bool, true, false, cond, ◌&&◌, eqb, List, [], ◌∷◌, ◌++◌, length, take, drop}
+use Rattle.std.proofs.Common.{replicate, sym, refl, ap, ◌∙◌, append_assoc, arith, length-append, length-drop, take-append-drop, drop-drop, take_at}
+use Rattle.std.proofs.Common.{drop_at, eqb-true}
 use mathlib.Core.Option.{some}
 use Rattle.frame.specs.Frame.{Frame, frame_size, most_bytes}
 use Rattle.frame.specs.Refusal.{refused, accepted}

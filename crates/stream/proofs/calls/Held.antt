@@ -1,5 +1,6 @@
 -- What a state holds of the stream, whatever calls made it.
-use Rattle.std.proofs.Common.{◌≡◌, ℕ, ◌%◌, ◌^◌, List, [], ◌∷◌, ◌++◌, length, take, drop, sym, refl, ap, ◌∙◌, subst, append_assoc, arith, length-append, take-append-drop}
+use Rattle.std.proofs.Common.{◌≡◌, ℕ, ◌%◌, ◌^◌, List, [], ◌∷◌, ◌++◌, length, take, drop, sym, refl, ap, ◌∙◌, subst, append_assoc, arith}
+use Rattle.std.proofs.Common.{length-append, take-append-drop}
 use native.Mathlib.Nat.{mod-add-mod}
 use lib.Seq.{append_snoc}
 use Rattle.frame.proofs.bytes.Laws.{cases}

@@ -1,5 +1,7 @@
 -- Laws of calls one after the other, for every form of state that gives a position back.
-use Rattle.std.proofs.Common.{◌≡◌, ℕ, zero, suc, ◌+◌, ◌^◌, ◌<◌, ◌≤◌, true, false, List, [], ◌∷◌, ◌++◌, length, take, drop, replicate, sym, refl, ap, ◌∙◌, subst, inl, inr, ⊎_elim, append_assoc, append-nil, not-suc-le-zero, mod-lt, arith, length-drop, take-append-drop, take_all}
+use Rattle.std.proofs.Common.{◌≡◌, ℕ, zero, suc, ◌+◌, ◌^◌, ◌<◌, ◌≤◌, true, false, List, [], ◌∷◌, ◌++◌, length, take, drop, replicate, sym, refl, ap}
+use Rattle.std.proofs.Common.{◌∙◌, subst, inl, inr, ⊎_elim, append_assoc, append-nil, not-suc-le-zero, mod-lt, arith, length-drop, take-append-drop}
+use Rattle.std.proofs.Common.{take_all}
 use mathlib.Core.Option.{none, some}
 use lib.Seq.{drop-append-le}
 use Rattle.frame.specs.Frame.{most_bytes}

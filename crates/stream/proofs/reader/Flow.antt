@@ -1,5 +1,6 @@
 -- A stream byte by byte, from any position: what joins one call to the stream read at once.
-use Rattle.std.proofs.Common.{◌≡◌, ℕ, zero, suc, ◌<◌, ◌≤◌, Bool, true, false, cond, List, [], ◌∷◌, ◌++◌, length, take, drop, sym, refl, ap, ◌∙◌, append-nil, not-suc-le-zero, arith, length-append, take_at, drop_at, le-ltb}
+use Rattle.std.proofs.Common.{◌≡◌, ℕ, zero, suc, ◌<◌, ◌≤◌, Bool, true, false, cond, List, [], ◌∷◌, ◌++◌, length, take, drop, sym, refl, ap, ◌∙◌}
+use Rattle.std.proofs.Common.{append-nil, not-suc-le-zero, arith, length-append, take_at, drop_at, le-ltb}
 use mathlib.Core.Option.{Option, none}
 use lib.ListN.{get_or-append}
 use lib.Seq.{append_snoc}

@@ -1,5 +1,6 @@
 -- Laws of what a whole record gives, with so much lent output.
-use Rattle.std.proofs.Common.{◌≡◌, ℕ, ◌+◌, ◌<◌, ◌≤◌, Bool, true, false, cond, ltb, List, ◌++◌, length, take, drop, sym, refl, ap, ◌∙◌, arith, length-take-le, le-ltb, lt-ltb}
+use Rattle.std.proofs.Common.{◌≡◌, ℕ, ◌+◌, ◌<◌, ◌≤◌, Bool, true, false, cond, ltb, List, ◌++◌, length, take, drop, sym, refl, ap, ◌∙◌, arith}
+use Rattle.std.proofs.Common.{length-take-le, le-ltb, lt-ltb}
 use mathlib.Core.Option.{Option, none, some}
 use mathlib.Core.Option.{map}
 use Rattle.frame.specs.Bytes.{placed}

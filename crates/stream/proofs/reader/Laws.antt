@@ -1,5 +1,6 @@
 -- Laws of a call: what its steps are by value.
-use Rattle.std.proofs.Common.{◌≡◌, ℕ, ◌+◌, ◌<◌, ◌≤◌, Bool, true, false, cond, not, ◌&&◌, eqb, List, [], ◌∷◌, length, take, set, sym, refl, ap, ◌∙◌, subst, add-one, arith, length-set, length-take-le, take-suc-set, ne_eqb, eqb-true}
+use Rattle.std.proofs.Common.{◌≡◌, ℕ, ◌+◌, ◌<◌, ◌≤◌, Bool, true, false, cond, not, ◌&&◌, eqb, List, [], ◌∷◌, length, take, set, sym, refl, ap, ◌∙◌}
+use Rattle.std.proofs.Common.{subst, add-one, arith, length-set, length-take-le, take-suc-set, ne_eqb, eqb-true}
 use borrow.Author.Tests.{not-false, eqb-false}
 use mathlib.Core.Option.{none}
 use Rattle.stream.specs.declared.state.StreamState.{StreamState}

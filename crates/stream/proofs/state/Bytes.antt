@@ -1,5 +1,7 @@
 -- Laws of the 24 bytes of a state.
-use Rattle.std.proofs.Common.{◌≡◌, ℕ, ◌+◌, ◌-◌, ◌<◌, ◌≤◌, min, Bool, cond, ltb, leb, List, [], ◌∷◌, ◌++◌, length, get_or, take, replicate, sym, refl, ap, ◌∙◌, append-nil, arith, length-append, length-take-le, take_all, get_or-take, get_or-append-add, ltb-false, ltb-true, leb-false, leb-true}
+use Rattle.std.proofs.Common.{◌≡◌, ℕ, ◌+◌, ◌-◌, ◌<◌, ◌≤◌, min, Bool, cond, ltb, leb, List, [], ◌∷◌, ◌++◌, length, get_or, take, replicate, sym, refl}
+use Rattle.std.proofs.Common.{ap, ◌∙◌, append-nil, arith, length-append, length-take-le, take_all, get_or-take, get_or-append-add, ltb-false}
+use Rattle.std.proofs.Common.{ltb-true, leb-false, leb-true}
 use lib.ListN.{length-replicate, get_or-replicate, get_or-append}
 use lib.Seq.{paste, take-append-le}
 use Rattle.frame.proofs.bytes.Laws.{cases}

@@ -1,5 +1,6 @@
 -- Laws of a state by value.
-use Rattle.std.proofs.Common.{◌≡◌, ℕ, ◌<◌, ◌≤◌, Bool, true, false, cond, List, [], map, length, take, sym, refl, ap, ◌∙◌, subst, arith, length-take-le, ltb-true}
+use Rattle.std.proofs.Common.{◌≡◌, ℕ, ◌<◌, ◌≤◌, Bool, true, false, cond, List, [], map, length, take, sym, refl, ap, ◌∙◌, subst, arith}
+use Rattle.std.proofs.Common.{length-take-le, ltb-true}
 use lib.ListN.{length-map}
 use Rattle.frame.proofs.bytes.Laws.{cases}
 use Rattle.stream.specs.declared.state.StreamState.{StreamState}

@@ -30,7 +30,12 @@ put_both-end-requires c =
     omega (arith, roomy c.args.header.now c.args.body.now (length c.args.out.now) unrefused)
 
 -- So many bytes were put, within what is lent.
-behind : (header body out new : List ℕ) (n : ℕ) → iso_write_refusal header body (length out) ≡ no_refusal → n ≡ length (header ++ body) → length new ≡ length out → n < length new
+behind :
+    (header body out new : List ℕ) (n : ℕ)
+    → iso_write_refusal header body (length out) ≡ no_refusal
+    → n ≡ length (header ++ body)
+    → length new ≡ length out
+    → n < length new
 behind header body out new n e size same = omega (arith, roomy header body (length out) e, size, same, length-append header body)
 
 pub slice_bounds-sum_byte-end : goal.slice_bounds-sum_byte-end
