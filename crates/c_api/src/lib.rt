@@ -1,4 +1,4 @@
-// The exported calls: numbers and byte slices in, one number out. include/rakhubole.h says them in words.
+// The calls that c_api_c exports to C: numbers and byte slices in, one number out. include/rakhubole.h says them in words.
 #![tactic(auto)]
 ghost use Rattle.std.specs.Prelude.{◌≡◌, length};
 ghost use Rattle.frame.specs.Frame.{sizes, reading_of, runs, writing_of, out_written};
@@ -82,16 +82,14 @@ fn stream_word(told: Told) -> u64
 }
 
 // Reads a frame of J1850, given as its two runs.
-#[unsafe(no_mangle)]
-pub extern "C" fn rakhubole_j1850_read(first: &[u8], response: &[u8]) -> u64
+pub fn rakhubole_j1850_read(first: &[u8], response: &[u8]) -> u64
     ensures { result ≡ read_word (sizes (read_frame first.now response.now)) }
 {
     read_word(read_frame(first, response))
 }
 
 // Writes a frame of J1850 from its parts: the first run and then the response at the start of `out`.
-#[unsafe(no_mangle)]
-pub extern "C" fn rakhubole_j1850_write(
+pub fn rakhubole_j1850_write(
     header: &[u8],
     body: &[u8],
     response: &[u8],
@@ -104,16 +102,14 @@ pub extern "C" fn rakhubole_j1850_write(
 }
 
 // Reads a message of ISO 9141-2, given as its run.
-#[unsafe(no_mangle)]
-pub extern "C" fn rakhubole_iso9141_read(run: &[u8]) -> u64
+pub fn rakhubole_iso9141_read(run: &[u8]) -> u64
     ensures { result ≡ read_word (sizes (read_iso run.now)) }
 {
     read_word(read_iso(run))
 }
 
 // Writes a message of ISO 9141-2 from its parts, at the start of `out`.
-#[unsafe(no_mangle)]
-pub extern "C" fn rakhubole_iso9141_write(header: &[u8], body: &[u8], out: &mut [u8]) -> u64
+pub fn rakhubole_iso9141_write(header: &[u8], body: &[u8], out: &mut [u8]) -> u64
     ensures told { result ≡ write_word (runs (write_iso header.now body.now (length out.old))) }
     ensures left { out.new ≡ out_written (write_iso header.now body.now (length out.old)) out.old }
 {
@@ -121,8 +117,7 @@ pub extern "C" fn rakhubole_iso9141_write(header: &[u8], body: &[u8], out: &mut 
 }
 
 // Tests a supplement.
-#[unsafe(no_mangle)]
-pub extern "C" fn rakhubole_supplement_check(supplement: &[u8]) -> u64
+pub fn rakhubole_supplement_check(supplement: &[u8]) -> u64
     ensures { result ≡ check_word (check supplement.now) }
 {
     let checked = check_supplement(supplement);
@@ -130,8 +125,7 @@ pub extern "C" fn rakhubole_supplement_check(supplement: &[u8]) -> u64
 }
 
 // Reports a frame of J1850 under a supplement: the rows at the start of `out`.
-#[unsafe(no_mangle)]
-pub extern "C" fn rakhubole_j1850_report(
+pub fn rakhubole_j1850_report(
     supplement: &[u8],
     first: &[u8],
     response: &[u8],
@@ -144,8 +138,7 @@ pub extern "C" fn rakhubole_j1850_report(
 }
 
 // Reports a message of ISO 9141-2 under a supplement: the rows at the start of `out`.
-#[unsafe(no_mangle)]
-pub extern "C" fn rakhubole_iso9141_report(supplement: &[u8], run: &[u8], out: &mut [u8]) -> u64
+pub fn rakhubole_iso9141_report(supplement: &[u8], run: &[u8], out: &mut [u8]) -> u64
     ensures told { result ≡ report_word (sized (iso_answer supplement.now run.now (length out.old))) }
     ensures left { out.new ≡ out_after (iso_answer supplement.now run.now (length out.old)) out.old }
 {
@@ -153,8 +146,7 @@ pub extern "C" fn rakhubole_iso9141_report(supplement: &[u8], run: &[u8], out: &
 }
 
 // Tells what comes first in the next part of an adapter's stream, with the runs of a frame at the start of `out`.
-#[unsafe(no_mangle)]
-pub extern "C" fn rakhubole_stream_read(
+pub fn rakhubole_stream_read(
     state: &[u8; STATE_BYTES],
     part: &[u8],
     out: &mut [u8],
@@ -167,8 +159,7 @@ pub extern "C" fn rakhubole_stream_read(
 }
 
 // Advances the state over the bytes that the telling call takes.
-#[unsafe(no_mangle)]
-pub extern "C" fn rakhubole_stream_advance(state: &mut [u8; STATE_BYTES], part: &[u8]) -> u64
+pub fn rakhubole_stream_advance(state: &mut [u8; STATE_BYTES], part: &[u8]) -> u64
     ensures told { result ≡ taken (position_in state.old) part.now }
     ensures left { state.new ≡ bytes_of (after (position_in state.old) part.now) }
 {
@@ -181,8 +172,7 @@ pub extern "C" fn rakhubole_stream_advance(state: &mut [u8; STATE_BYTES], part: 
 }
 
 // The refusal of a stream that ends in this state.
-#[unsafe(no_mangle)]
-pub extern "C" fn rakhubole_stream_end(state: &[u8; STATE_BYTES]) -> u64
+pub fn rakhubole_stream_end(state: &[u8; STATE_BYTES]) -> u64
     ensures { result ≡ end_refusal (position_in state.now) }
 {
     let bytes = *state;
@@ -190,8 +180,7 @@ pub extern "C" fn rakhubole_stream_end(state: &[u8; STATE_BYTES]) -> u64
 }
 
 // The place of the record begun, or of the next.
-#[unsafe(no_mangle)]
-pub extern "C" fn rakhubole_stream_place(state: &[u8; STATE_BYTES]) -> u64
+pub fn rakhubole_stream_place(state: &[u8; STATE_BYTES]) -> u64
     ensures { result ≡ (position_in state.now).place }
 {
     let bytes = *state;

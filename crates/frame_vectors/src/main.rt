@@ -5,9 +5,11 @@
 // W writes a header, data and response, w a header and data, into as many bytes as the last length says, of a buffer that is shown
 // whole.
 #![tactic(auto)]
+
 ghost use Rattle.std.specs.Prelude.{◌≡◌, ◌+◌, ◌≤◌, length};
 
-use libc::{STDIN_FILENO, STDOUT_FILENO};
+use std::io::{self, BufReader, BufWriter, Read, Write};
+use vector_io::read_full;
 
 const LINE: usize = 113;
 
@@ -53,27 +55,25 @@ fn run_at(line: &[u8], at: usize) -> [u8; RUN]
     run
 }
 
-fn show_word(word: u64) {
-    io::print_hex(STDOUT_FILENO, word, WORD_DIGITS);
+fn show_word<W: Write>(out: &mut W, word: u64) -> io::Result<()> {
+    write!(out, "{word:0WORD_DIGITS$x}")
 }
 
-fn show_buffer(bytes: &[u8; BUFFER]) {
+fn show_buffer<W: Write>(out: &mut W, bytes: &[u8; BUFFER]) -> io::Result<()> {
     let mut text = [0u8; TEXT];
     hex_text::write_text(bytes, &mut text);
-    io::write_all(STDOUT_FILENO, &text);
+    out.write_all(&text)
 }
 
-fn read_case(line: &[u8; LINE]) {
+fn read_case<W: Write>(line: &[u8; LINE], out: &mut W) -> io::Result<()> {
     let first = run_at(line, FIRST);
     let response = run_at(line, SECOND);
     let run = hex_text::counted(&first, length_at(line, FIRST));
     if line[0] == J1850_READ {
-        show_word(c_api::rakhubole_j1850_read(
-            run,
-            hex_text::counted(&response, length_at(line, SECOND)),
-        ));
+        let given = hex_text::counted(&response, length_at(line, SECOND));
+        show_word(out, c_api::rakhubole_j1850_read(run, given))
     } else {
-        show_word(c_api::rakhubole_iso9141_read(run));
+        show_word(out, c_api::rakhubole_iso9141_read(run))
     }
 }
 
@@ -94,42 +94,47 @@ fn write_into(
     }
 }
 
-fn write_case(line: &[u8; LINE]) {
+fn write_case<W: Write>(line: &[u8; LINE], out: &mut W) -> io::Result<()> {
     let header = run_at(line, FIRST);
     let body = run_at(line, SECOND);
     let response = run_at(line, THIRD);
-    let mut out = [FILLING; BUFFER];
-    show_word(write_into(
+    let mut buffer = [FILLING; BUFFER];
+    let answer = write_into(
         line[0],
         hex_text::counted(&header, length_at(line, FIRST)),
         hex_text::counted(&body, length_at(line, SECOND)),
         hex_text::counted(&response, length_at(line, THIRD)),
-        &mut out,
+        &mut buffer,
         length_at(line, ROOM),
-    ));
-    io::write_all(STDOUT_FILENO, b" ");
-    show_buffer(&out);
+    );
+    show_word(out, answer)?;
+    write!(out, " ")?;
+    show_buffer(out, &buffer)
 }
 
 // Reads a line, runs its case and answers whether there may be another.
-fn next_case() -> bool {
+fn next_case<R: Read, W: Write>(input: &mut R, out: &mut W) -> io::Result<bool> {
     let mut line = [0u8; LINE];
-    if io::read_full(STDIN_FILENO, &mut line) < LINE {
-        return false;
+    if read_full(input, &mut line)? < LINE {
+        return Ok(false);
     }
     if line[0] == J1850_READ || line[0] == ISO9141_READ {
-        read_case(&line);
+        read_case(&line, out)?;
     } else {
-        write_case(&line);
+        write_case(&line, out)?;
     }
-    io::write_all(STDOUT_FILENO, b"\n");
-    true
+    writeln!(out)?;
+    Ok(true)
 }
 
-// The turns are counted down, since a proved loop has to end and nothing says that the input does.
-fn main() {
-    let mut turns = u64::MAX;
-    while turns > 0 && next_case() {
-        turns -= 1;
+// The turns are counted, since a proved loop has to end and nothing says that the input does.
+fn main(rt: HostRuntime) -> io::Result<()> {
+    let mut input = BufReader::new(rt.alloc(), rt.reader())?;
+    let mut out = BufWriter::new(rt.alloc(), io::writer(&rt))?;
+    for _ in 0..u64::MAX {
+        if !next_case(&mut input, &mut out)? {
+            break;
+        }
     }
+    out.flush()
 }

@@ -41,6 +41,7 @@ fn slot_line(s: &[u8], bytes: &[u8], row: PrnRow, at: usize) -> Line
 }
 
 // The line of an item by its spot.
+#[tactic(auto, unfolding(crate::specs::Items::item_line))]
 pub(crate) fn item_line(s: &[u8], bytes: &[u8], spot: Spot) -> Line
     requires { Good (records_of s.now) × Lying most_bits spot }
     ensures { result ≡ item_line (catalogue s.now).slot bytes.now spot }

@@ -1,5 +1,6 @@
 // Reports: what a frame shows under the SAE tables and a supplement.
 #![tactic(auto)]
+
 pub mod answer;
 mod bits;
 mod group;

@@ -126,6 +126,7 @@ fn put_bare(kind: u8, out: &mut [u8], at: usize) -> usize
 }
 
 // The row of a line from a place on; the place behind it.
+#[tactic(auto, unfolding(crate::specs::Rows::row, crate::specs::Rows::big_endian))]
 pub(crate) fn put_row(line: Line, out: &mut [u8], at: usize) -> usize
     requires { HoldsFraction line × (at + length (row line) ≤ length out.old) }
     ensures placed { out.new ≡ placed out.old at (row line) }

@@ -2,7 +2,8 @@
 ghost use Rattle.std.specs.Prelude.{◌≡◌, ◌≤◌, ◌<◌, ◌^◌, cond};
 ghost use Rattle.catalogue.specs.Rows.{bmm};
 ghost use Rattle.report.specs.Line.{no_state_reason};
-ghost use Rattle.report.specs.Scaling.{widest_shown, signed, pattern, raw_number, above, number_line, within_limits, digits_pass, printable, decimal, text_line, digits_line, form_line};
+ghost use Rattle.report.specs.Scaling.{widest_shown, signed, pattern, raw_number, above, number_line, within_limits};
+ghost use Rattle.report.specs.Scaling.{digits_pass, printable, decimal, text_line, digits_line, form_line};
 
 use crate::line::{Line, NO_STATE, NOT_SHOWN};
 use catalogue::rows::{ASC, BMP, SED, SNM, SlotRow, in_order};

@@ -38,6 +38,7 @@ fn spot_at(row: PrnRow, to: usize, at: usize) -> Spot
 }
 
 // The item of a PRN from a place on, in a window that ends at a bit.
+#[tactic(auto, unfolding(crate::specs::Spots::spot_of, crate::specs::Spots::spot_at))]
 pub(crate) fn spot_of(s: &[u8], to: usize, place: Place, prn: u16) -> Spot
     requires { (to ≤ most_bits) × Inside to place }
     ensures { result ≡ spot_of (catalogue s.now).prn to place prn }

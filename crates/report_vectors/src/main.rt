@@ -5,10 +5,12 @@
 // of a buffer. The answer is shown with the lent bytes and the two behind them. The bench cases stand first, and the file `names`
 // beside `stdin` names each; P1 to P13 and those of ISO 9141-2 are proved of the definitions in proofs/BenchLaws.antt.
 #![tactic(auto)]
-ghost use Rattle.std.specs.Prelude.{◌≡◌, ◌<◌, length};
+
+ghost use Rattle.std.specs.Prelude.{◌≡◌, ◌<◌, length, IfOk};
 ghost use Rattle.report_vectors.specs.Input.{supplement_buffer, number_end};
 
-use libc::{STDIN_FILENO, STDOUT_FILENO};
+use std::io::{self, BufReader, BufWriter, Read, Write};
+use vector_io::{large_buffer, read_full, read_text};
 
 const SUPPLEMENT: usize = 16400;
 
@@ -50,43 +52,37 @@ fn supplement_buffer() -> [u8; SUPPLEMENT]
     [0; SUPPLEMENT]
 }
 
-fn read_number() -> Number
-    ensures { result.value < number_end }
+fn read_number<R: Read>(input: &mut R) -> io::Result<Number>
+    ensures { IfOk result (λ r. r.value < number_end) }
 {
     let mut text = [0u8; HEAD];
-    let got = io::read_full(STDIN_FILENO, &mut text);
+    let got = read_full(input, &mut text)?;
     let high = hex_text::byte_from(&text, 0) as usize;
     let low = hex_text::byte_from(&text, BYTE_DIGITS) as usize;
-    Number {
+    Ok(Number {
         there: got == HEAD,
         value: high * BYTE_VALUES + low,
-    }
-}
-
-// So many characters, as far as there is room.
-fn read_text(text: &mut [u8], size: usize) -> usize {
-    let part = hex_text::fewer(size, text.len());
-    io::read_full(STDIN_FILENO, &mut text[..part])
+    })
 }
 
 // A run into a buffer that has room for it, and its length.
-fn read_run(run: &mut [u8]) -> Number {
-    let number = read_number();
+fn read_run<R: Read>(input: &mut R, run: &mut [u8]) -> io::Result<Number> {
+    let number = read_number(input)?;
     let n = number.value;
     let size = n * BYTE_DIGITS + 1;
-    let mut text = io::large_buffer();
-    let got = read_text(&mut text, size);
+    let mut text = large_buffer();
+    let got = read_text(input, &mut text, size)?;
     hex_text::fill(&text, run);
-    Number {
+    Ok(Number {
         there: got == size && n <= run.len(),
         value: n,
-    }
+    })
 }
 
-fn show_bytes(bytes: &[u8]) {
+fn show_bytes<W: Write>(out: &mut W, bytes: &[u8]) -> io::Result<()> {
     let mut text = [0u8; TEXT];
     let n = hex_text::write_text(bytes, &mut text);
-    io::write_all(STDOUT_FILENO, hex_text::counted(&text, n));
+    out.write_all(hex_text::counted(&text, n))
 }
 
 // The report into so many bytes of a buffer.
@@ -106,45 +102,56 @@ fn report_into(
     }
 }
 
-fn run_case(bus: u8, supplement: &[u8], first: &[u8], response: &[u8], room: usize)
+fn run_case<W: Write>(
+    out: &mut W,
+    bus: u8,
+    supplement: &[u8],
+    first: &[u8],
+    response: &[u8],
+    room: usize,
+) -> io::Result<()>
     requires { room < number_end }
 {
-    let mut out = [FILLING; BUFFER];
-    let answer = report_into(bus, supplement, first, response, &mut out, room);
-    io::print_hex(STDOUT_FILENO, answer, WORD_DIGITS);
-    io::write_all(STDOUT_FILENO, b" ");
-    show_bytes(hex_text::counted(&out, room + BEHIND));
-    io::write_all(STDOUT_FILENO, b"\n");
+    let mut buffer = [FILLING; BUFFER];
+    let answer = report_into(bus, supplement, first, response, &mut buffer, room);
+    write!(out, "{answer:0WORD_DIGITS$x} ")?;
+    show_bytes(out, hex_text::counted(&buffer, room + BEHIND))?;
+    writeln!(out)
 }
 
 // Reads a line, runs its case and answers whether there may be another.
-fn next_case() -> bool {
+fn next_case<R: Read, W: Write>(input: &mut R, out: &mut W) -> io::Result<bool> {
     let mut supplement = supplement_buffer();
     let mut first = [0u8; RUN];
     let mut response = [0u8; RUN];
     let mut bus = [0u8; BUS];
-    io::read_full(STDIN_FILENO, &mut bus);
-    let s = read_run(&mut supplement);
-    let f = read_run(&mut first);
-    let r = read_run(&mut response);
-    let room = read_number();
+    read_full(input, &mut bus)?;
+    let s = read_run(input, &mut supplement)?;
+    let f = read_run(input, &mut first)?;
+    let r = read_run(input, &mut response)?;
+    let room = read_number(input)?;
     if !(s.there && f.there && r.there && room.there) {
-        return false;
+        return Ok(false);
     }
     run_case(
+        out,
         bus[0],
         hex_text::counted(&supplement, s.value),
         hex_text::counted(&first, f.value),
         hex_text::counted(&response, r.value),
         room.value,
-    );
-    true
+    )?;
+    Ok(true)
 }
 
-// The turns are counted down, since a proved loop has to end and nothing says that the input does.
-fn main() {
-    let mut turns = u64::MAX;
-    while turns > 0 && next_case() {
-        turns -= 1;
+// The turns are counted, since a proved loop has to end and nothing says that the input does.
+fn main(rt: HostRuntime) -> io::Result<()> {
+    let mut input = BufReader::new(rt.alloc(), rt.reader())?;
+    let mut out = BufWriter::new(rt.alloc(), io::writer(&rt))?;
+    for _ in 0..u64::MAX {
+        if !next_case(&mut input, &mut out)? {
+            break;
+        }
     }
+    out.flush()
 }

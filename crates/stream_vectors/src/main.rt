@@ -5,9 +5,11 @@
 // A step stands alone: its line has the whole state. The telling call's answer is shown with the whole buffer, the advancing call's
 // with the state that it leaves; then, of the state in the line, the answers of the end and of the place.
 #![tactic(auto)]
+
 ghost use Rattle.std.specs.Prelude.{◌≤◌, length};
 
-use libc::{STDIN_FILENO, STDOUT_FILENO};
+use std::io::{self, BufReader, BufWriter, Read, Write};
+use vector_io::read_full;
 
 const LINE: usize = 186;
 
@@ -45,23 +47,23 @@ fn fill_at(line: &[u8], at: usize, run: &mut [u8])
     hex_text::fill(&line[at..], run);
 }
 
-fn show_word(word: u64) {
-    io::print_hex(STDOUT_FILENO, word, WORD_DIGITS);
+fn show_word<W: Write>(out: &mut W, word: u64) -> io::Result<()> {
+    write!(out, "{word:0WORD_DIGITS$x}")
 }
 
-fn show_bytes(bytes: &[u8]) {
+fn show_bytes<W: Write>(out: &mut W, bytes: &[u8]) -> io::Result<()> {
     let mut text = [0u8; TEXT];
     let n = hex_text::write_text(bytes, &mut text);
-    io::write_all(STDOUT_FILENO, hex_text::counted(&text, n));
+    out.write_all(hex_text::counted(&text, n))
 }
 
 // Takes the array and no slice: the length of a slice of an array that a call changed would have to be proved.
-fn show_state(state: &[u8; STATE]) {
-    show_bytes(state);
+fn show_state<W: Write>(out: &mut W, state: &[u8; STATE]) -> io::Result<()> {
+    show_bytes(out, state)
 }
 
-fn show_space() {
-    io::write_all(STDOUT_FILENO, b" ");
+fn show_space<W: Write>(out: &mut W) -> io::Result<()> {
+    write!(out, " ")
 }
 
 // The telling call, lent so many bytes of a buffer and no more than it has.
@@ -70,51 +72,60 @@ fn read_into(state: &[u8; STATE], part: &[u8], out: &mut [u8], room: usize) -> u
     c_api::rakhubole_stream_read(state, part, &mut out[..lent])
 }
 
-fn show_read(state: &[u8; STATE], part: &[u8], room: usize) {
-    let mut out = [FILLING; BUFFER];
-    show_word(read_into(state, part, &mut out, room));
-    show_space();
-    show_bytes(&out);
+fn show_read<W: Write>(
+    out: &mut W,
+    state: &[u8; STATE],
+    part: &[u8],
+    room: usize,
+) -> io::Result<()> {
+    let mut buffer = [FILLING; BUFFER];
+    show_word(out, read_into(state, part, &mut buffer, room))?;
+    show_space(out)?;
+    show_bytes(out, &buffer)
 }
 
 // The advancing call, on a copy, since the calls behind it take the given state.
-fn show_advance(state: &[u8; STATE], part: &[u8]) {
+fn show_advance<W: Write>(out: &mut W, state: &[u8; STATE], part: &[u8]) -> io::Result<()> {
     let mut after = *state;
-    show_word(c_api::rakhubole_stream_advance(&mut after, part));
-    show_space();
-    show_state(&after);
+    show_word(out, c_api::rakhubole_stream_advance(&mut after, part))?;
+    show_space(out)?;
+    show_state(out, &after)
 }
 
-fn run_step(line: &[u8; LINE]) {
+fn run_step<W: Write>(line: &[u8; LINE], out: &mut W) -> io::Result<()> {
     let mut state = [0u8; STATE];
     fill_at(line, STATE_AT, &mut state);
     let mut bytes = [0u8; PART];
     fill_at(line, PART_AT, &mut bytes);
     let part = hex_text::counted(&bytes, length_at(line, LENGTH_AT));
-    show_read(&state, part, length_at(line, ROOM_AT));
-    show_space();
-    show_advance(&state, part);
-    show_space();
-    show_word(c_api::rakhubole_stream_end(&state));
-    show_space();
-    show_word(c_api::rakhubole_stream_place(&state));
-    io::write_all(STDOUT_FILENO, b"\n");
+    show_read(out, &state, part, length_at(line, ROOM_AT))?;
+    show_space(out)?;
+    show_advance(out, &state, part)?;
+    show_space(out)?;
+    show_word(out, c_api::rakhubole_stream_end(&state))?;
+    show_space(out)?;
+    show_word(out, c_api::rakhubole_stream_place(&state))?;
+    writeln!(out)
 }
 
 // Reads a line, runs its step and answers whether there may be another.
-fn next_step() -> bool {
+fn next_step<R: Read, W: Write>(input: &mut R, out: &mut W) -> io::Result<bool> {
     let mut line = [0u8; LINE];
-    if io::read_full(STDIN_FILENO, &mut line) < LINE {
-        return false;
+    if read_full(input, &mut line)? < LINE {
+        return Ok(false);
     }
-    run_step(&line);
-    true
+    run_step(&line, out)?;
+    Ok(true)
 }
 
-// The turns are counted down, since a proved loop has to end and nothing says that the input does.
-fn main() {
-    let mut turns = u64::MAX;
-    while turns > 0 && next_step() {
-        turns -= 1;
+// The turns are counted, since a proved loop has to end and nothing says that the input does.
+fn main(rt: HostRuntime) -> io::Result<()> {
+    let mut input = BufReader::new(rt.alloc(), rt.reader())?;
+    let mut out = BufWriter::new(rt.alloc(), io::writer(&rt))?;
+    for _ in 0..u64::MAX {
+        if !next_step(&mut input, &mut out)? {
+            break;
+        }
     }
+    out.flush()
 }

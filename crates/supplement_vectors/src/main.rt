@@ -2,9 +2,11 @@
 //
 // A line of standard input is one case in hexadecimal: four digits of its length, a space, its bytes.
 #![tactic(auto)]
+
 ghost use Rattle.std.specs.Prelude.{◌≡◌, ◌<◌, length};
 
-use libc::{STDIN_FILENO, STDOUT_FILENO};
+use std::io::{self, BufReader, BufWriter, Read, Write};
+use vector_io::{large_buffer, read_full, read_text};
 
 const MOST: usize = 16400;
 
@@ -32,36 +34,33 @@ fn zeros() -> [u8; MOST]
     [0; MOST]
 }
 
-// So many characters, as far as there is room.
-fn read_text(text: &mut [u8], size: usize) -> usize {
-    let part = hex_text::fewer(size, text.len());
-    io::read_full(STDIN_FILENO, &mut text[..part])
-}
-
 // Reads a line, runs its case and answers whether there may be another.
-fn next_case() -> bool {
+fn next_case<R: Read, W: Write>(input: &mut R, out: &mut W) -> io::Result<bool> {
     let mut head = [0u8; HEAD];
-    if io::read_full(STDIN_FILENO, &mut head) < HEAD {
-        return false;
+    if read_full(input, &mut head)? < HEAD {
+        return Ok(false);
     }
     let n = length_of(&head);
     let size = n * BYTE_DIGITS + 1;
-    let mut text = io::large_buffer();
-    if MOST < n || read_text(&mut text, size) < size {
-        return false;
+    let mut text = large_buffer();
+    if MOST < n || read_text(input, &mut text, size)? < size {
+        return Ok(false);
     }
     let mut bytes = zeros();
     hex_text::fill(&text, &mut bytes);
     let answer = c_api::rakhubole_supplement_check(hex_text::counted(&bytes, n));
-    io::print_hex(STDOUT_FILENO, answer, WORD_DIGITS);
-    io::write_all(STDOUT_FILENO, b"\n");
-    true
+    writeln!(out, "{answer:0WORD_DIGITS$x}")?;
+    Ok(true)
 }
 
-// The turns are counted down, since a proved loop has to end and nothing says that the input does.
-fn main() {
-    let mut turns = u64::MAX;
-    while turns > 0 && next_case() {
-        turns -= 1;
+// The turns are counted, since a proved loop has to end and nothing says that the input does.
+fn main(rt: HostRuntime) -> io::Result<()> {
+    let mut input = BufReader::new(rt.alloc(), rt.reader())?;
+    let mut out = BufWriter::new(rt.alloc(), io::writer(&rt))?;
+    for _ in 0..u64::MAX {
+        if !next_case(&mut input, &mut out)? {
+            break;
+        }
     }
+    out.flush()
 }

@@ -1,9 +1,10 @@
 // Prints every row of the SAE tables as the lookups find it under the empty supplement: PRN rows by PRN, then SLOT rows by form, width
 // and number.
 #![tactic(auto)]
+
 use catalogue::lookup::{find_prn, find_slot};
 use catalogue::rows::{PrnFound, SlotFound};
-use libc::STDOUT_FILENO;
+use std::io::{self, BufWriter, Write};
 
 // SLOT numbers of document 003 are far below this.
 const NUMBERS_END: u16 = 1024;
@@ -22,67 +23,70 @@ const PAIR: usize = 4;
 
 const FOUR: usize = 8;
 
-fn show(number: u64, digits: usize) {
-    io::write_all(STDOUT_FILENO, b" ");
-    io::print_hex(STDOUT_FILENO, number, digits);
+fn show<W: Write>(out: &mut W, number: u64, digits: usize) -> io::Result<()> {
+    write!(out, " {number:0digits$x}")
 }
 
-fn show_prn(prn: u16) {
+fn show_prn<W: Write>(out: &mut W, prn: u16) -> io::Result<()> {
     let found = find_prn(b"", prn);
     match found {
-        PrnFound::Missing => {}
+        PrnFound::Missing => Ok(()),
         PrnFound::Found(row) => {
-            io::write_all(STDOUT_FILENO, b"P");
-            show(row.prn as u64, PAIR);
-            show(row.form as u64, BYTE);
-            show(row.width as u64, BYTE);
-            show(row.slot as u64, PAIR);
-            io::write_all(STDOUT_FILENO, b"\n");
+            write!(out, "P")?;
+            show(out, row.prn as u64, PAIR)?;
+            show(out, row.form as u64, BYTE)?;
+            show(out, row.width as u64, BYTE)?;
+            show(out, row.slot as u64, PAIR)?;
+            writeln!(out)
         }
     }
 }
 
-fn show_slot(form: u8, width: u8, number: u16) {
+fn show_slot<W: Write>(out: &mut W, form: u8, width: u8, number: u16) -> io::Result<()> {
     let found = find_slot(b"", form, width, number);
     match found {
-        SlotFound::Missing => {}
+        SlotFound::Missing => Ok(()),
         SlotFound::Found(row) => {
-            io::write_all(STDOUT_FILENO, b"S");
-            show(row.form as u64, BYTE);
-            show(row.width as u64, BYTE);
-            show(row.number as u64, PAIR);
-            show(row.multiplier as u64, PAIR);
-            show(row.divisor as u64, PAIR);
-            show(row.offset as u64, FOUR);
-            show(row.lowest as u64, FOUR);
-            show(row.highest as u64, FOUR);
-            io::write_all(STDOUT_FILENO, b"\n");
+            write!(out, "S")?;
+            show(out, row.form as u64, BYTE)?;
+            show(out, row.width as u64, BYTE)?;
+            show(out, row.number as u64, PAIR)?;
+            show(out, row.multiplier as u64, PAIR)?;
+            show(out, row.divisor as u64, PAIR)?;
+            show(out, row.offset as u64, FOUR)?;
+            show(out, row.lowest as u64, FOUR)?;
+            show(out, row.highest as u64, FOUR)?;
+            writeln!(out)
         }
     }
 }
 
-fn show_numbers(form: u8, width: u8) {
+fn show_numbers<W: Write>(out: &mut W, form: u8, width: u8) -> io::Result<()> {
     for number in 0..NUMBERS_END {
-        show_slot(form, width, number);
+        show_slot(out, form, width, number)?;
     }
+    Ok(())
 }
 
-fn show_widths(form: u8) {
+fn show_widths<W: Write>(out: &mut W, form: u8) -> io::Result<()> {
     for width in 1..WIDTHS_END {
-        show_numbers(form, width);
+        show_numbers(out, form, width)?;
     }
+    Ok(())
 }
 
-fn show_prns() {
-    for prn in 0..LAST_PRN {
-        show_prn(prn);
+fn show_prns<W: Write>(out: &mut W) -> io::Result<()> {
+    for prn in 0..=LAST_PRN {
+        show_prn(out, prn)?;
     }
-    show_prn(LAST_PRN);
+    Ok(())
 }
 
-fn main() {
-    show_prns();
+fn main(rt: HostRuntime) -> io::Result<()> {
+    let mut out = BufWriter::new(rt.alloc(), io::writer(&rt))?;
+    show_prns(&mut out)?;
     for form in 1..FORMS_END {
-        show_widths(form);
+        show_widths(&mut out, form)?;
     }
+    out.flush()
 }

@@ -75,7 +75,8 @@ behind x b (suc k) = behind x b k * 2 + b / 2 ^ (7 - k) % 2
 bits_more : (s : List ℕ) (at w k : ℕ) → (at + w) % 8 ≡ 0 → k ≤ 8 → cut s at (w + k) ≡ behind (cut s at w) (get_or s ((at + w) / 8) 0) k
 bits_more s at w zero h l = ap (cut s at) (omega arith)
 bits_more s at w (suc k) h l =
-    let there : bit_at s (at + (w + k)) ≡ get_or s ((at + w) / 8) 0 / 2 ^ (7 - k) % 2 = ap (bit_at s) (omega arith) ∙ bit_of_lem s (at + w) k h (omega arith) in
+    let there : bit_at s (at + (w + k)) ≡ get_or s ((at + w) / 8) 0 / 2 ^ (7 - k) % 2 =
+    ap (bit_at s) (omega arith) ∙ bit_of_lem s (at + w) k h (omega arith) in
     ap (cut s at) (omega arith) ∙ sym (cut_next s at (w + k)) ∙ (λ i. bits_more s at w k h (omega arith) i * 2 + there i)
 
 -- All eight bits of a byte make the byte.

@@ -58,7 +58,10 @@ module _ (c : Catalogue) (bytes : List ℕ) (from to : ℕ) where
       (ls : List Line) (prns : List ℕ) (first : ℕ) (held : List Held) (tally : Tally) (place : Place) (i : ℕ)
       (f : Filled ls prns first held tally place i) (h : i < length prns)
     where
-      spots_more : {spot : Spot} → spot ≡ spot_of c.prn to place (get_or prns i 0) → spots_of (take (i + 1) prns) ≡ spots_of (take i prns) ++ spot ∷ []
+      spots_more :
+          {spot : Spot}
+          → spot ≡ spot_of c.prn to place (get_or prns i 0)
+          → spots_of (take (i + 1) prns) ≡ spots_of (take i prns) ++ spot ∷ []
       spots_more {spot} e =
           let prn : ℕ = get_or prns i 0 in
           let there : spot_of c.prn to (place_after (Bit from) (spots_of (take i prns))) prn ≡ spot =

@@ -56,7 +56,11 @@ bits_told {n = n} f = sym (whole_reread f) ∙ ap (to_z w64) (bits_are n)
 
 -- Equal rows of Numbers are those of one whole number and one divisor, and so of one double.
 numbers_same :
-    (x y : Float) (n m : ℤ) (d e : ℕ) → IsFraction x n d → IsFraction y m e → row (Number x n d) ≡ row (Number y m e) → Number x n d ≡ Number y m e
+    (x y : Float) (n m : ℤ) (d e : ℕ)
+    → IsFraction x n d
+    → IsFraction y m e
+    → row (Number x n d) ≡ row (Number y m e)
+    → Number x n d ≡ Number y m e
 unfolding row
 numbers_same x y n m d e f g same =
     let bodies : number_body x n d ≡ number_body y m e = ap (drop 1) same in

@@ -208,7 +208,11 @@ pub form_high : (form width : ℕ) (slot : SlotRow) (raw : ℕ) → bmm ≤ form
 unfolding form_line
 form_high form width slot raw h = rw (le-leb bmm form h)
 
-pub form_wide : (form width : ℕ) (slot : SlotRow) (raw : ℕ) → form < bmm → widest_shown < width → form_line form width slot raw ≡ Unknown too_wide_reason
+pub form_wide :
+    (form width : ℕ) (slot : SlotRow) (raw : ℕ)
+    → form < bmm
+    → widest_shown < width
+    → form_line form width slot raw ≡ Unknown too_wide_reason
 unfolding form_line
 form_wide form width slot raw h w = rw (lt-leb bmm form h, lt-ltb widest_shown width w)
 
