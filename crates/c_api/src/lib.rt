@@ -1,5 +1,6 @@
 // The calls that c_api_c exports to C: numbers and byte slices in, one number out. include/rakhubole.h says them in words.
 #![tactic(auto)]
+
 ghost use Rattle.std.specs.Prelude.{◌≡◌, length};
 ghost use Rattle.frame.specs.Frame.{sizes, reading_of, runs, writing_of, out_written};
 ghost use Rattle.frame.specs.Reader.{read_frame};
@@ -89,12 +90,7 @@ pub fn rakhubole_j1850_read(first: &[u8], response: &[u8]) -> u64
 }
 
 // Writes a frame of J1850 from its parts: the first run and then the response at the start of `out`.
-pub fn rakhubole_j1850_write(
-    header: &[u8],
-    body: &[u8],
-    response: &[u8],
-    out: &mut [u8],
-) -> u64
+pub fn rakhubole_j1850_write(header: &[u8], body: &[u8], response: &[u8], out: &mut [u8]) -> u64
     ensures told { result ≡ write_word (runs (write_frame header.now body.now response.now (length out.old))) }
     ensures left { out.new ≡ out_written (write_frame header.now body.now response.now (length out.old)) out.old }
 {
@@ -146,11 +142,7 @@ pub fn rakhubole_iso9141_report(supplement: &[u8], run: &[u8], out: &mut [u8]) -
 }
 
 // Tells what comes first in the next part of an adapter's stream, with the runs of a frame at the start of `out`.
-pub fn rakhubole_stream_read(
-    state: &[u8; STATE_BYTES],
-    part: &[u8],
-    out: &mut [u8],
-) -> u64
+pub fn rakhubole_stream_read(state: &[u8; STATE_BYTES], part: &[u8], out: &mut [u8]) -> u64
     ensures told { result ≡ stream_word (runs_told (told_within (position_in state.now) part.now (length out.old))) }
     ensures left { out.new ≡ out_told (told_within (position_in state.now) part.now (length out.old)) out.old }
 {

@@ -52,7 +52,7 @@ pub(crate) fn with_group(
     requires layout { (layout.count ≤ most_prns) × (length layout.prns ≡ most_prns) × (layout.found ≡ false → layout.count ≡ 0) }
     requires room { Shows report (lines_in report) × (report.count + layout.count < most_lines) }
     ensures { Shows result (lines_in report
-        ++ group_lines (group_of (catalogue s.now) (layout_of layout) (record { bytes = bytes.entry.now; from = from; to = to; prns = λ l. l.prns }) ∷ [])) }
+        ++ group_lines (group_of (catalogue s.now) (layout_of layout) (record { bytes = bytes.now; from = from; to = to; prns = λ l. l.prns }) ∷ [])) }
 {
     let first = report.count;
     let mut held = report.held;
