@@ -9,7 +9,7 @@
 ghost use Rattle.std.specs.Prelude.{◌≡◌, ◌+◌, ◌≤◌, length};
 
 use std::io::{self, BufReader, BufWriter, Read, Write};
-use vector_io::read_full;
+use vector_io::{print_hex, read_full};
 
 const LINE: usize = 113;
 
@@ -56,7 +56,7 @@ fn run_at(line: &[u8], at: usize) -> [u8; RUN]
 }
 
 fn show_word<W: Write>(out: &mut W, word: u64) -> io::Result<()> {
-    write!(out, "{word:0WORD_DIGITS$x}")
+    print_hex(out, word, WORD_DIGITS)
 }
 
 fn show_buffer<W: Write>(out: &mut W, bytes: &[u8; BUFFER]) -> io::Result<()> {

@@ -10,7 +10,7 @@ ghost use Rattle.std.specs.Prelude.{◌≡◌, ◌<◌, length, IfOk};
 ghost use Rattle.report_vectors.specs.Input.{supplement_buffer, number_end};
 
 use std::io::{self, BufReader, BufWriter, Read, Write};
-use vector_io::{large_buffer, read_full, read_text};
+use vector_io::{large_buffer, print_hex, read_full, read_text};
 
 const SUPPLEMENT: usize = 16400;
 
@@ -114,7 +114,8 @@ fn run_case<W: Write>(
 {
     let mut buffer = [FILLING; BUFFER];
     let answer = report_into(bus, supplement, first, response, &mut buffer, room);
-    write!(out, "{answer:0WORD_DIGITS$x} ")?;
+    print_hex(out, answer, WORD_DIGITS)?;
+    write!(out, " ")?;
     show_bytes(out, hex_text::counted(&buffer, room + BEHIND))?;
     writeln!(out)
 }

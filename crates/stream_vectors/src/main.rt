@@ -9,7 +9,7 @@
 ghost use Rattle.std.specs.Prelude.{◌≤◌, length};
 
 use std::io::{self, BufReader, BufWriter, Read, Write};
-use vector_io::read_full;
+use vector_io::{print_hex, read_full};
 
 const LINE: usize = 186;
 
@@ -48,7 +48,7 @@ fn fill_at(line: &[u8], at: usize, run: &mut [u8])
 }
 
 fn show_word<W: Write>(out: &mut W, word: u64) -> io::Result<()> {
-    write!(out, "{word:0WORD_DIGITS$x}")
+    print_hex(out, word, WORD_DIGITS)
 }
 
 fn show_bytes<W: Write>(out: &mut W, bytes: &[u8]) -> io::Result<()> {

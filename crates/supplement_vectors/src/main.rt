@@ -6,7 +6,7 @@
 ghost use Rattle.std.specs.Prelude.{◌≡◌, ◌<◌, length};
 
 use std::io::{self, BufReader, BufWriter, Read, Write};
-use vector_io::{large_buffer, read_full, read_text};
+use vector_io::{large_buffer, print_hex, read_full, read_text};
 
 const MOST: usize = 16400;
 
@@ -49,7 +49,8 @@ fn next_case<R: Read, W: Write>(input: &mut R, out: &mut W) -> io::Result<bool> 
     let mut bytes = zeros();
     hex_text::fill(&text, &mut bytes);
     let answer = c_api::rakhubole_supplement_check(hex_text::counted(&bytes, n));
-    writeln!(out, "{answer:0WORD_DIGITS$x}")?;
+    print_hex(out, answer, WORD_DIGITS)?;
+    writeln!(out)?;
     Ok(true)
 }
 

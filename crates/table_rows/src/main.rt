@@ -5,6 +5,7 @@
 use catalogue::lookup::{find_prn, find_slot};
 use catalogue::rows::{PrnFound, SlotFound};
 use std::io::{self, BufWriter, Write};
+use vector_io::print_hex;
 
 // SLOT numbers of document 003 are far below this.
 const NUMBERS_END: u16 = 1024;
@@ -24,7 +25,8 @@ const PAIR: usize = 4;
 const FOUR: usize = 8;
 
 fn show<W: Write>(out: &mut W, number: u64, digits: usize) -> io::Result<()> {
-    write!(out, " {number:0digits$x}")
+    write!(out, " ")?;
+    print_hex(out, number, digits)
 }
 
 fn show_prn<W: Write>(out: &mut W, prn: u16) -> io::Result<()> {

@@ -1,11 +1,12 @@
-// Reading so many characters at a time, for the programs that run vector files.
+// Reading so many characters at a time and printing numbers in hexadecimal, for the programs that run vector files.
 #![tactic(auto)]
 
-ghost use Rattle.std.specs.Prelude.{◌≡◌, ◌<◌, ◌≤◌, min, length, take, IfOk};
+ghost use Rattle.std.specs.Prelude.{◌≡◌, ◌<◌, ◌≤◌, min, length, take, IfOk, OnOk};
 ghost use Rattle.std.specs.Io.{ReadsAtMost};
-ghost use Rattle.std.specs.Io.KnownBytes.{Consumes, IsAtEnd};
+ghost use Rattle.std.specs.Io.KnownBytes.{Appends, Consumes, IsAtEnd};
+ghost use Rattle.vector_io.specs.Digits.{hex_digits, wide};
 
-use std::io::{self, Read};
+use std::io::{self, Read, Write};
 
 // Reads until `buf` is full or the input ends, and answers how many bytes it put at the start of `buf`.
 pub fn read_full<R: Read>(input: &mut R, buf: &mut [u8]) -> io::Result<usize>
@@ -40,6 +41,13 @@ pub fn large_buffer() -> [u8; 65536]
     ensures { 65536 ≡ length result }
 {
     [0; 65536]
+}
+
+// A number in hexadecimal digits, in lower case, with zeros before it up to so many digits.
+pub fn print_hex<W: Write>(out: &mut W, n: u64, width: usize) -> io::Result<()>
+    ensures { OnOk result (Appends (W.contents out.old) (W.contents out.new) (wide width (hex_digits n))) }
+{
+    write!(out, "{n:0width$x}")
 }
 
 #[cfg(test)]

@@ -1,0 +1,2 @@
+-- What a width puts before digits.
+mod Wide
