@@ -109,7 +109,8 @@ def respelled(part, path=''):
 def words(part, path):
     def one(m):
         name = m.group(0)
-        if path.endswith('/Proof.antt') and part[m.start() - 1:m.start()] == '.' and snake(name) in FUNCTIONS:
+        step = part[m.start() - 1:m.start()] == '.' and not re.search(r'Rattle\.[\w.]*$', part[:m.start()])
+        if path.endswith('/Proof.antt') and step and snake(name) in FUNCTIONS:
             return snake(name)
         if name in ALIKE and ALIKE[name] in path:
             return name + '_lem'
