@@ -4,8 +4,9 @@
 usage: tools/respell.py ROOT
 
 Words are in snake case, types in upper camel case. Names of src/ and of the library stay, and so do those that functions' own
-proofs (Proof.antt) declare. Where two names would fall together, GIVEN says what each is called. It also renames the file
-Contracts.antt of specs/ to Inner.antt and the crate hex to hex_text, whose old names the kit has.
+proofs (Proof.antt) declare. Where two names would fall together, GIVEN says what each is called. Respelled are definitions, laws,
+clauses and imports, the texts of must-fail edits that are on these, and names between backticks in comments, README.md and docs/*.md.
+It also renames the file Contracts.antt of specs/ to Inner.antt and the crate hex to hex_text, whose old names the kit has.
 """
 import os
 import re
@@ -58,7 +59,7 @@ def declared():
             continue
         lines = re.sub('--[^\n]*', '', text(path)).split('\n')
         for i, line in enumerate(lines):
-            if re.match(r'\s*(use|open|pub mod|mod|module|unfolding|pub use)\b', line):
+            if re.match(r'\s*(use|open|pub mod|mod|module|unfolding|pub use)\s', line):
                 continue
             m = re.match(r'\s*(?:pub )?(record|data)\s+([^%s]+)' % SEPARATORS, line)
             if m:

@@ -8,7 +8,7 @@
 
 ghost use Rattle.std.specs.Prelude.{◌≤◌, length};
 
-use std::io::{self, BufReader, BufWriter, Read, Write};
+use std::io::{self, Read, Write};
 use vector_io::{print_hex, read_full};
 
 const LINE: usize = 186;
@@ -120,12 +120,12 @@ fn next_step<R: Read, W: Write>(input: &mut R, out: &mut W) -> io::Result<bool> 
 
 // The turns are counted, since a proved loop has to end and nothing says that the input does.
 fn main(rt: HostRuntime) -> io::Result<()> {
-    let mut input = BufReader::new(rt.alloc(), rt.reader())?;
-    let mut out = BufWriter::new(rt.alloc(), io::writer(&rt))?;
+    let mut input = rt.reader();
+    let mut out = io::writer(&rt);
     for _ in 0..u64::MAX {
         if !next_step(&mut input, &mut out)? {
             break;
         }
     }
-    out.flush()
+    Ok(())
 }

@@ -4,7 +4,7 @@
 
 use catalogue::lookup::{find_prn, find_slot};
 use catalogue::rows::{PrnFound, SlotFound};
-use std::io::{self, BufWriter, Write};
+use std::io::{self, Write};
 use vector_io::print_hex;
 
 // SLOT numbers of document 003 are far below this.
@@ -85,10 +85,10 @@ fn show_prns<W: Write>(out: &mut W) -> io::Result<()> {
 }
 
 fn main(rt: HostRuntime) -> io::Result<()> {
-    let mut out = BufWriter::new(rt.alloc(), io::writer(&rt))?;
+    let mut out = io::writer(&rt);
     show_prns(&mut out)?;
     for form in 1..FORMS_END {
         show_widths(&mut out, form)?;
     }
-    out.flush()
+    Ok(())
 }

@@ -28,13 +28,13 @@ module _ (s : StreamState) (room : length s.held ≡ frame_record_size) where
         within = omega (arith, l);
       }
 
-  open-held : (t : Bool) → t ≡ is_open s.count (kind_of s.held) → partial (take s.count s.held) ≡ t
-  open-held t e = partial_of s.held s.count room ∙ sym e
+  open_held : (t : Bool) → t ≡ is_open s.count (kind_of s.held) → partial (take s.count s.held) ≡ t
+  open_held t e = partial_of s.held s.count room ∙ sym e
 
   -- A partial record is not passed; a whole one is left behind.
   pub stands_partial : true ≡ is_open s.count (kind_of s.held) → s.count ≤ frame_record_size → StandsAt s (passed (standing s))
   unfolding passed
-  stands_partial e l = record { position = rw (open-held true e); room = room; within = l }
+  stands_partial e l = record { position = rw (open_held true e); room = room; within = l }
 
   pub stands_behind :
       {t : Bool} {place : ℕ}
@@ -46,10 +46,10 @@ module _ (s : StreamState) (room : length s.held ≡ frame_record_size) where
   unfolding passed
   stands_behind e l p u =
       let size = length-take-le s.count s.held (omega (arith, room, l)) in
-      let kind = kind_of_lem s.held s.count (open-held false e) in
+      let kind = kind_of_lem s.held s.count (open_held false e) in
       record {
         position =
-            rw (open-held false e)
+            rw (open_held false e)
             (λ i.
             record {
               place = (p ∙ ap (place_behind s.place) (sym size)) i;
@@ -93,8 +93,8 @@ module _ (s : StreamState) (room : length s.held ≡ frame_record_size) where
   pub telling_is : is_to_tell s.count (kind_of s.held) ≡ is_telling (standing s)
   unfolding is_telling
   telling_is =
-      cases (is_open s.count (kind_of s.held)) (λ e. rw (e, open-held true (sym e)) refl)
-      (λ e. rw (e, open-held false (sym e), kind_of_lem s.held s.count (open-held false (sym e))) refl)
+      cases (is_open s.count (kind_of s.held)) (λ e. rw (e, open_held true (sym e)) refl)
+      (λ e. rw (e, open_held false (sym e), kind_of_lem s.held s.count (open_held false (sym e))) refl)
 
   -- Where nothing is to be told, reading goes on in the record begun or, behind a tick, at the next.
   pub stands_on :
