@@ -6,8 +6,9 @@
 // beside `stdin` names each; P1 to P13 and those of ISO 9141-2 are proved of the definitions in proofs/BenchLaws.antt.
 #![tactic(auto)]
 
-ghost use Rattle.std.specs.Prelude.{◌≡◌, ◌<◌, length, IfOk};
+ghost use Rattle.std.specs.Prelude.{◌≡◌, ◌<◌, length, IfOk, OnErr};
 ghost use Rattle.report_vectors.specs.Input.{supplement_buffer, number_end};
+ghost use Rattle.vector_io.specs.Taken.{TakesSome};
 
 use std::io::{self, Read, Write};
 use vector_io::{large_buffer, print_hex, read_full, read_text};
@@ -53,7 +54,8 @@ fn supplement_buffer() -> [u8; SUPPLEMENT]
 }
 
 fn read_number<R: Read>(input: &mut R) -> io::Result<Number>
-    ensures { IfOk result (λ r. r.value < number_end) }
+    ensures small { IfOk result (λ r. r.value < number_end) }
+    ensures err { OnErr result (TakesSome (R.remaining input.old) (R.remaining input.new)) }
 {
     let mut text = [0u8; HEAD];
     let got = read_full(input, &mut text)?;

@@ -1,18 +1,21 @@
 // Reading so many characters at a time and printing numbers in hexadecimal, for the programs that run vector files.
 #![tactic(auto)]
 
-ghost use Rattle.std.specs.Prelude.{◌≡◌, ◌<◌, ◌≤◌, min, length, take, IfOk, OnOk};
+ghost use Rattle.std.specs.Prelude.{◌≡◌, ◌<◌, ◌≤◌, min, length, take, IfOk, OnErr, OnOk};
 ghost use Rattle.std.specs.Io.{ReadsAtMost};
 ghost use Rattle.std.specs.Io.KnownBytes.{Appends, Consumes, IsAtEnd};
 ghost use Rattle.vector_io.specs.Digits.{hex_digits, wide};
+ghost use Rattle.vector_io.specs.Taken.{LeavesTaken};
 
 use std::io::{self, Read, Write};
 
-// Reads until `buf` is full or the input ends, and answers how many bytes it put at the start of `buf`.
+// Reads until `buf` is full or the input ends, and answers how many bytes it put at the start of `buf`. An error is the reader's own;
+// what was read before it stands in `buf`.
 pub fn read_full<R: Read>(input: &mut R, buf: &mut [u8]) -> io::Result<usize>
     ensures within { ReadsAtMost result buf.new }
     ensures bytes { IfOk result (λ n. Consumes (R.remaining input.old) (R.remaining input.new) (take n buf.new)) }
     ensures end { IfOk result (λ n. n < length buf.old → IsAtEnd (R.remaining input.new)) }
+    ensures err { OnErr result (LeavesTaken (R.remaining input.old) (R.remaining input.new) buf.new) }
 {
     let mut done = 0;
     while done < buf.len() {
@@ -31,6 +34,7 @@ pub fn read_text<R: Read>(input: &mut R, text: &mut [u8], size: usize) -> io::Re
     ensures part { IfOk result (λ n. n ≤ size) }
     ensures bytes { IfOk result (λ n. Consumes (R.remaining input.old) (R.remaining input.new) (take n text.new)) }
     ensures end { IfOk result (λ n. n < min size (length text.old) → IsAtEnd (R.remaining input.new)) }
+    ensures err { OnErr result (LeavesTaken (R.remaining input.old) (R.remaining input.new) text.new) }
 {
     let part = size.min(text.len());
     read_full(input, &mut text[..part])
