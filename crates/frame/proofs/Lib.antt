@@ -5,4 +5,3 @@ pub mod SameReading
 pub mod OneByte
 pub mod Counts
 pub mod Sentences
-pub mod seal

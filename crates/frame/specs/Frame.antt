@@ -1,14 +1,12 @@
 -- A frame and its parts, on any bus, and what is handed over of them: document 01, "The frame".
-use Rattle.std.specs.Prelude.{ℕ, ◌+◌, ◌-◌, ◌≤◌, ◌≡◌, cond, List, ◌++◌, eqb, length, take, drop}
-use Rattle.frame.specs.declared.frame.Reading.{Reading}
-use Rattle.frame.specs.declared.frame.Reading.TheVariants.{Refused, Accepted}
-use Rattle.frame.specs.declared.frame.Writing.{Writing}
-use Rattle.frame.specs.declared.frame.Writing.TheVariants.{Written}
-use Rattle.frame.specs.declared.frame.Writing.TheVariants as writing
+use Rattle.std.specs.Prelude.{ℕ, ◌+◌, ◌-◌, ◌≤◌, ◌≡◌, cond, List, ◌++◌, eqb, length, take, drop, Result}
+use Rattle.frame.specs.declared.frame.Parts as read
+use Rattle.frame.specs.declared.frame.Runs as written
+use Rattle.frame.specs.declared.refusal.Refusal.{Refusal}
 use Rattle.frame.specs.declared.response.ResponseKind.{ResponseKind}
 use Rattle.frame.specs.Bytes.{placed}
 use Rattle.frame.specs.Header.{one_byte_form}
-use Rattle.frame.specs.Refusal.{Outcome, refused, accepted}
+use Rattle.frame.specs.Refusal.{Outcome, refused, accepted, outcome_by, number_of}
 use Rattle.frame.specs.Response.{kind_number, is_checked, kind_data}
 
 -- "All bytes of both runs together number at most 12."
@@ -39,7 +37,15 @@ parts_at n run kind response =
 abbrev pub limit : ResponseKind → ℕ → ℕ
 limit kind n = cond (is_checked kind) (cond (eqb n one_byte_form) 9 7) (cond (eqb n one_byte_form) 10 8)
 
--- What a reader hands over of the parts: how long each is, and the kind's number.
+-- The parts that a reader hands over, as runs of bytes.
+abbrev pub handed : read.Parts → Parts
+handed p = record { header = p.header.now; body = p.body.now; kind = p.kind; response = p.response.now }
+
+-- What a reader gives.
+abbrev pub reading_of : Result read.Parts Refusal → Outcome Parts
+reading_of r = outcome_by handed number_of r
+
+-- What is told of the parts to C: how long each is, and the kind's number.
 pub record Sizes : Type 0 where
   pub header : ℕ
   pub body : ℕ
@@ -50,11 +56,6 @@ abbrev pub sizes : Outcome Parts → Outcome Sizes
 sizes (refused n) = refused n
 sizes (accepted p) =
     accepted (record { header = length p.header; body = length p.body; kind = kind_number p.kind; response = length p.response })
-
--- The number and the values of each case of the readers' enum.
-abbrev pub reading_of : Reading → Outcome Sizes
-reading_of (Refused n) = refused n
-reading_of (Accepted h d k r) = accepted (record { header = h; body = d; kind = k; response = r })
 
 -- What is handed over lies within the two runs, and these within twelve bytes: the header at the start of the first, the data
 -- behind it, then one check byte; the response at the start of the second.
@@ -76,10 +77,9 @@ abbrev pub runs : Outcome Frame → Outcome Runs
 runs (refused n) = refused n
 runs (accepted f) = accepted (record { first = length f.first; response = length f.response })
 
--- The number and the values of each case of the writers' enum.
-abbrev pub writing_of : Writing → Outcome Runs
-writing_of (writing.Refused n) = refused n
-writing_of (Written f r) = accepted (record { first = f; response = r })
+-- What a writer gives.
+abbrev pub writing_of : Result written.Runs Refusal → Outcome Runs
+writing_of r = outcome_by (λ (w : written.Runs). record { first = w.first; response = w.response }) number_of r
 
 -- Lent output afterwards: the first run, then the response, at its start; refused, as it was.
 abbrev pub out_written : Outcome Frame → List ℕ → List ℕ

@@ -1,5 +1,7 @@
 -- Refusals, and rules in an order, for every call of every layer: document 01, "Refusal numbers".
-use Rattle.std.specs.Prelude.{ℕ, ◌+◌, Bool, cond, List, [], ◌∷◌, eqb}
+use Rattle.std.specs.Prelude.{ℕ, ◌+◌, Bool, cond, List, [], ◌∷◌, eqb, Result, Ok, Err}
+use Rattle.frame.specs.declared.refusal.Refusal.{Refusal}
+use Rattle.frame.specs.declared.refusal.Refusal.TheVariants as frame
 
 abbrev pub no_refusal : ℕ
 no_refusal = 0
@@ -52,10 +54,35 @@ response_too_few = 52
 abbrev pub response_too_many : ℕ
 response_too_many = 53
 
+-- The number of each refusal of frames.
+abbrev pub number_of : Refusal → ℕ
+number_of frame.TooLong = too_long
+number_of frame.TooShort = too_short
+number_of frame.CheckWrong = check_wrong
+number_of frame.TypeUnassigned = type_unassigned
+number_of frame.ResponseCheckWrong = response_check_wrong
+number_of frame.HeaderWrong = header_wrong
+number_of frame.OutputShort = output_short
+number_of frame.FirstByteWrong = first_byte_wrong
+number_of frame.ResponseForbidden = response_forbidden
+number_of frame.ResponseMissing = response_missing
+number_of frame.ResponseTooFew = response_too_few
+number_of frame.ResponseTooMany = response_too_many
+
 -- A refusal with its number, or what was asked for.
 pub data Outcome (A : Type 0) : Type 0 where
   refused : ℕ → Outcome A
   accepted : A → Outcome A
+
+-- What a call gives: the number of its refusal, or what is told of what it made.
+abbrev pub outcome_by : {A B E : Type 0} → (A → B) → (E → ℕ) → Result A E → Outcome B
+outcome_by told number (Ok a) = accepted (told a)
+outcome_by told number (Err e) = refused (number e)
+
+-- The number of a test's refusal, or no refusal.
+abbrev pub told_by : {A E : Type 0} → (E → ℕ) → Result A E → ℕ
+told_by number (Ok a) = no_refusal
+told_by number (Err e) = number e
 
 -- A refusal's number, and whether its rule is broken.
 pub record Rule : Type 0 where

@@ -1,6 +1,6 @@
 // The header's fields, by shift and mask, and the decision over the sixteen message types.
-ghost use Rattle.std.specs.Prelude.{◌≡◌};
-ghost use Rattle.frame.specs.Header.{bit_h, bit_k, message_type, header_size, response_kind, kind_asked};
+ghost use Rattle.std.specs.Prelude.{◌≡◌, ◌/◌, ◌%◌, ◌^◌, ◌<◌};
+ghost use Rattle.frame.specs.Header.{message_type, header_size, response_kind, kind_asked};
 
 use crate::bytes::byte_at;
 use crate::response::ResponseKind;
@@ -12,24 +12,19 @@ pub const THREE_BYTE_FORM: usize = 3;
 pub const ONE_BYTE_FORM: usize = 1;
 
 // "bit 4 H"
-const H_PLACE: u8 = 4;
+pub(crate) const H_PLACE: u8 = 4;
 
 // "bit 3 K"
-const K_PLACE: u8 = 3;
+pub(crate) const K_PLACE: u8 = 3;
 
 // Bits 3 to 0, KYZZ.
 const TYPE_BITS: u8 = 0x0F;
 
-pub(crate) fn bit_h(b: u8) -> u8
-    ensures { result ≡ bit_h b }
+pub(crate) fn bit(b: u8, place: u8) -> u8
+    requires { place < 8 }
+    ensures { result ≡ b / 2 ^ place % 2 }
 {
-    (b >> H_PLACE) & 1
-}
-
-pub(crate) fn bit_k(b: u8) -> u8
-    ensures { result ≡ bit_k b }
-{
-    (b >> K_PLACE) & 1
+    (b >> place) & 1
 }
 
 pub(crate) fn message_type(b: u8) -> u8
@@ -43,7 +38,7 @@ pub(crate) fn message_type(b: u8) -> u8
 pub fn header_size(run: &[u8]) -> usize
     ensures { result ≡ header_size run.now }
 {
-    if bit_h(byte_at(run, 0)) == 0 {
+    if bit(byte_at(run, 0), H_PLACE) == 0 {
         THREE_BYTE_FORM
     } else {
         ONE_BYTE_FORM

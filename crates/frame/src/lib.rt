@@ -10,4 +10,5 @@ pub mod iso;
 pub mod reader;
 pub mod refusal;
 pub mod response;
+mod seal;
 pub mod writer;

@@ -1,63 +1,51 @@
-// Reading a frame of J1850: two byte runs to the sizes of its parts.
+// Reading a frame of J1850: two byte runs to its parts.
 ghost use Rattle.std.specs.Prelude.{◌≡◌};
-ghost use Rattle.frame.specs.Frame.{sizes, reading_of};
+ghost use Rattle.frame.specs.Refusal.{number_of, told_by};
+ghost use Rattle.frame.specs.Frame.{reading_of};
 ghost use Rattle.frame.specs.Reader.{read_refusal, read_frame};
 
-use crate::check_byte::is_sealed;
-use crate::count::{DATA_SENT, count_refusal};
-use crate::frame::{MOST_BYTES, Reading};
+use crate::check_byte::Crc;
+use crate::count::{DATA_SENT, accept_count};
+use crate::frame::{MOST_BYTES, Parts};
 use crate::header::{header_size, kind_asked};
-use crate::refusal::{
-    CHECK_WRONG, NO_REFUSAL, RESPONSE_CHECK_WRONG, TOO_LONG, TOO_SHORT, TYPE_UNASSIGNED,
-};
-use crate::response::{is_checked, is_unassigned, kind_number, response_size};
+use crate::refusal::Refusal;
+use crate::response::ResponseKind;
+use crate::seal::is_sealed;
 
-// The first of the refusals 1, 2, 3, 4, 50, 51, 52, 53, 6 that applies.
-#[tactic(auto, unfolding(crate::specs::Reader::read_refusal, crate::specs::Reader::read_rules, crate::specs::Reader::read_rules_with, crate::specs::Refusal::first_broken, crate::specs::Count::count_refusal, crate::specs::Count::count_rules))]
-fn read_refusal(first: &[u8], response: &[u8]) -> u8
-    ensures { result ≡ read_refusal first.now response.now }
+// The first of the refusals 1, 2, 3, 4, 50, 51, 52, 53, 6 that applies. The two runs are parameters of their own, as C has
+// them.
+#[tactic(auto, using(crate::proofs::header::Laws::header_range), unfolding(crate::specs::Reader::read_refusal, crate::specs::Reader::read_rules, crate::specs::Reader::read_rules_with, crate::specs::Refusal::first_broken, crate::specs::Count::count_refusal, crate::specs::Count::count_rules))]
+fn accept_runs(first: &[u8], response: &[u8]) -> Result<(), Refusal>
+    ensures { told_by number_of result ≡ read_refusal first.now response.now }
 {
     let n = first.len();
     let m = response.len();
     if MOST_BYTES < n + m {
-        return TOO_LONG;
+        return Err(Refusal::TooLong);
     }
     if n < header_size(first) + 1 {
-        return TOO_SHORT;
+        return Err(Refusal::TooShort);
     }
-    if !is_sealed(first) {
-        return CHECK_WRONG;
+    if !is_sealed::<Crc>(first) {
+        return Err(Refusal::CheckWrong);
     }
     let kind = kind_asked(first);
-    if is_unassigned(kind) {
-        return TYPE_UNASSIGNED;
+    if kind == ResponseKind::Unassigned {
+        return Err(Refusal::TypeUnassigned);
     }
-    let miscount = count_refusal(kind, DATA_SENT, m);
-    if miscount != NO_REFUSAL {
-        return miscount;
+    accept_count(kind, DATA_SENT, m)?;
+    if kind == ResponseKind::Data && !is_sealed::<Crc>(response) {
+        return Err(Refusal::ResponseCheckWrong);
     }
-    if is_checked(kind) {
-        if !is_sealed(response) {
-            return RESPONSE_CHECK_WRONG;
-        }
-    }
-    NO_REFUSAL
+    Ok(())
 }
 
 // Reads any two runs: refused, or the parts of an accepted frame.
-pub fn read_frame(first: &[u8], response: &[u8]) -> Reading
-    ensures { reading_of result ≡ sizes (read_frame first.now response.now) }
+pub fn read_frame<'a>(first: &'a [u8], response: &'a [u8]) -> Result<Parts<'a>, Refusal>
+    ensures { reading_of result ≡ read_frame first.now response.now }
 {
-    let refusal = read_refusal(first, response);
-    if refusal != NO_REFUSAL {
-        return Reading::Refused(refusal);
-    }
+    accept_runs(first, response)?;
     let kind = kind_asked(first);
-    let header = header_size(first);
-    Reading::Accepted {
-        header,
-        body: first.len() - (header + 1),
-        kind: kind_number(kind),
-        response: response_size(kind, response.len()),
-    }
+    let size = kind.response_size(response.len());
+    Ok(Parts::at(header_size(first), first, kind, &response[..size]))
 }

@@ -1,11 +1,13 @@
 -- Laws of memory that is written over.
 use mathlib.Core.Path.{◌≡◌, refl, sym, ap, ◌∙◌}
-use mathlib.Core.List.{List, [], ◌∷◌, ◌++◌, append_assoc}
-use Prim.Native.Nat.{ℕ, suc, ◌+◌, ◌≤◌, ◌<◌}
+use mathlib.Core.List.{List, [], ◌∷◌, ◌++◌, append_assoc, append-nil}
+use Prim.Native.Nat.{ℕ, suc, ◌+◌, ◌-◌, ◌≤◌, ◌<◌}
 use native.Mathlib.Omega.{arith}
 use native.Mathlib.Numerals.{add-one}
-use lib.ListN.{length, take, drop, set, length-append}
-use lib.Seq.{paste, paste-zero, length-paste, take-length, length-take-le, take-append-le, take-take, take_at, drop_at, set_split, append_snoc, drop-drop}
+use lib.ListN.{length, take, drop, set, length-append, length-drop, drop_of_length-le}
+use lib.Seq.{take_all, paste, paste-zero, length-paste, take-length, length-take-le, take-append-le}
+use lib.Seq.{take-take, take_at, drop_at, set_split, append_snoc, drop-drop}
+use borrow.Rule.Slice.PartMut.{put_mid}
 use Rattle.frame.specs.Bytes.{placed}
 
 -- A whole copy is a run placed.
@@ -42,6 +44,27 @@ stored_before out at b u fits =
     ∙ (λ i. front i ++ b ∷ back i)
     ∙ sym (append_assoc (take at out) (b ∷ u) rest)
     ∙ ap (λ (n : ℕ). take at out ++ (b ∷ u) ++ drop n out) same
+
+-- A run that stands before the rest of lent memory is placed at its start.
+pub placed_start : (out u : List ℕ) (n : ℕ) → n ≡ length u → u ++ drop n out ≡ placed out 0 u
+unfolding placed
+placed_start out u n e = ap (λ (m : ℕ). u ++ drop m out) (e ∙ omega arith)
+
+-- What is placed at the start of a part that goes to the end is placed at the part's place.
+pub tail_placed :
+    (out : List ℕ) (at : ℕ) (u : List ℕ) {o : List ℕ}
+    → o ≡ placed (take (length out - at) (drop at out)) 0 u
+    → put_mid at (length out - at) out o ≡ placed out at u
+unfolding placed
+tail_placed out at u e =
+    let k = length out - at in
+    let tail : take k (drop at out) ≡ drop at out = take_all k (drop at out) (omega (arith, length-drop at out)) in
+    let none : drop k (drop at out) ≡ [] = drop_of_length-le (drop at out) {i = k} (omega (arith, length-drop at out)) in
+    let moved = e ∙ ap (λ (s : List ℕ). u ++ drop (0 + length u) s) tail ∙ ap (λ (s : List ℕ). u ++ s) (drop-drop (0 + length u) at out) in
+    (λ i. take at out ++ (moved i ++ none i))
+    ∙ ap (λ (s : List ℕ). take at out ++ s) (append-nil (u ++ drop (at + (0 + length u)) out))
+    ∙ sym (append_assoc (take at out) u (drop (at + (0 + length u)) out))
+    ∙ ap (λ (n : ℕ). take at out ++ u ++ drop (at + n) out) (omega arith)
 
 module _ (out : List ℕ) (at : ℕ) (u : List ℕ) (fits : at + length u ≤ length out) where
   pub length_placed : length (placed out at u) ≡ length out

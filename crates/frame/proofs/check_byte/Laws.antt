@@ -4,12 +4,10 @@ use mathlib.Core.Bool.{Bool, cond, ◌&&◌, ◌||◌, not}
 use mathlib.Core.List.{List, [], ◌∷◌, ◌++◌}
 use Prim.Native.Nat.{ℕ, zero, suc, ◌+◌, ◌-◌, ◌*◌, ◌/◌, ◌%◌, ◌≤◌, ◌<◌}
 use native.Mathlib.Omega.{arith}
-use native.Mathlib.Numerals.{add-one}
 use borrow.Author.Tests.{eq-eqb, ne_eqb}
 use lib.Bits.{bit_and, bit_xor, differ, xor_step, xor_comm, xor_lt, xor_add_and, or_add_and, or_lt}
 use lib.Dec.{T, ltb, eqb, ltb→lt, eqb→eq}
-use lib.ListN.{length, drop, get_or, drop_of_length-le}
-use lib.Seq.{drop-cons}
+use Rattle.std.specs.Prelude.{fold}
 use Rattle.frame.specs.CheckByte.{step, steps, feed, register, check_byte}
 use Rattle.frame.specs.CheckByte.{polynomial, all_ones, residue, top_bit, byte_bits}
 use mir.Facts.{and_yes}
@@ -55,14 +53,11 @@ unfolding register
 register_append [] b r = refl
 register_append (x ∷ a) b r = register_append a b (feed r x)
 
--- The register over what is left of a run: one byte more is fed, until nothing is left.
-pub register_next : (s : List ℕ) (i r : ℕ) → i < length s → register r (drop i s) ≡ register (feed r (get_or s i 0)) (drop (i + 1) s)
+-- The register over a run is a fold over its bytes.
+pub register_fold : (s : List ℕ) (r : ℕ) → register r s ≡ fold feed r s
 unfolding register
-register_next s i r h = rw (add-one, drop-cons s i 0 h)
-
-pub register_end : (s : List ℕ) (i r : ℕ) → length s ≤ i → register r (drop i s) ≡ r
-unfolding register
-register_end s i r h = rw (drop_of_length-le s {i = i} h)
+register_fold [] r = refl
+register_fold (b ∷ s) r = register_fold s (feed r b)
 
 -- Only all ones goes to the residue in the steps of a byte.
 residue_test : ℕ → Bool

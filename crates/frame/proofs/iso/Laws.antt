@@ -13,14 +13,15 @@ use Rattle.frame.specs.declared.response.ResponseKind.TheVariants.{Empty}
 use Rattle.frame.specs.Seal.{is_sealed_by}
 use Rattle.frame.specs.Header.{bit_h, bit_k, three_byte_form}
 use Rattle.frame.specs.Response.{kind_empty}
-use Rattle.frame.specs.Refusal.{refused, accepted, no_refusal}
+use Rattle.frame.specs.Refusal.{accepted, no_refusal}
 use Rattle.frame.specs.Frame.{Frame, frame_size, Parts, parts_at, most_bytes, sizes, Handed}
 use Rattle.frame.specs.Iso.{sum, sum_byte, wrong_first, iso_read_rules, iso_read_refusal, iso_parts, read_iso, IsoObeys}
 use Rattle.frame.specs.Iso.{iso_frame, iso_write_rules, iso_write_refusal, write_iso}
 use Rattle.frame.proofs.bytes.Laws.{cases, byte_at}
 use Rattle.frame.proofs.seal.Laws.{Detects}
-use Rattle.frame.proofs.refusal.Laws.{kept, last_kept, none_broken, unrefused_is, refused_is, accepted_has}
+use Rattle.frame.proofs.refusal.Laws.{kept, last_kept, none_broken, unrefused_is, accepted_has}
 use Rattle.frame.proofs.frame.Laws.{run_length, parts_found, run_again, sizes_at, handed_at}
+use Rattle.std.specs.Prelude.{fold}
 
 -- The sum over what is left of a run: one byte more is added, until nothing is left.
 pub sum_start : (s : List ℕ) → sum_byte s ≡ (0 + sum s) % 256
@@ -34,6 +35,17 @@ sum_next s i r h = rw (add-one, drop-cons s i 0 h) (omega arith)
 pub sum_end : (s : List ℕ) (i r : ℕ) → length s ≤ i → r < 256 → (r + sum (drop i s)) % 256 ≡ r
 unfolding sum
 sum_end s i r h small = rw (drop_of_length-le s {i = i} h) (omega arith)
+
+-- The sum over a run is a fold over its bytes.
+sum_fold : (s : List ℕ) (r : ℕ) → r < 256 → (r + sum s) % 256 ≡ fold (λ r b. (r + b) % 256) r s
+unfolding sum
+sum_fold [] r small = omega arith
+sum_fold (b ∷ s) r small = omega arith ∙ sum_fold s ((r + b) % 256) (omega arith)
+
+-- The sum byte is a fold over the bytes of a run.
+pub sum_byte_fold : (s : List ℕ) → sum_byte s ≡ fold (λ r b. (r + b) % 256) 0 s
+unfolding sum_byte
+sum_byte_fold s = omega arith ∙ sum_fold s 0 (omega arith)
 
 sum_append : (u v : List ℕ) → sum (u ++ v) ≡ sum u + sum v
 unfolding sum
@@ -107,10 +119,6 @@ module _ (run : List ℕ) where
   unfolding read_iso
   read_accepts e = unrefused_is (iso_read_refusal run) (iso_parts run) e
 
-  pub read_refuses : (iso_read_refusal run ≡ no_refusal → ⊥) → read_iso run ≡ refused (iso_read_refusal run)
-  unfolding read_iso
-  read_refuses e = refused_is (iso_read_refusal run) (iso_parts run) e
-
   -- What is handed over of an accepted message: the sizes of its parts, which lie within the run.
   pub accepted_sizes :
       IsoObeys run
@@ -167,10 +175,6 @@ module _ (h d : List ℕ) where
     pub write_accepts : iso_write_refusal h d room ≡ no_refusal → write_iso h d room ≡ accepted (iso_frame h d)
     unfolding write_iso
     write_accepts e = unrefused_is (iso_write_refusal h d room) (iso_frame h d) e
-
-    pub write_refuses : (iso_write_refusal h d room ≡ no_refusal → ⊥) → write_iso h d room ≡ refused (iso_write_refusal h d room)
-    unfolding write_iso
-    write_refuses e = refused_is (iso_write_refusal h d room) (iso_frame h d) e
 
     -- What is written lies within twelve bytes and within the lent room.
     pub written_within : (f : Frame) → write_iso h d room ≡ accepted f → (frame_size f ≤ most_bytes) × (frame_size f ≤ room)

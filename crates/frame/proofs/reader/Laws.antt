@@ -13,11 +13,11 @@ use Rattle.frame.specs.Response.{kind_number, response_size}
 use Rattle.frame.specs.Count.{data_sent}
 use Rattle.frame.specs.Header.{header_size, kind_asked}
 use Rattle.frame.specs.Frame.{Parts, most_bytes, sizes, Handed}
-use Rattle.frame.specs.Refusal.{refused, accepted, no_refusal}
+use Rattle.frame.specs.Refusal.{accepted, no_refusal}
 use Rattle.frame.specs.Reader.{read_rules_with, read_rules, read_refusal, parts_of, read_frame, FrameObeys}
 use Rattle.frame.proofs.response.Laws.{response_obeys, response_kept, response_size_le, kind_le}
 use Rattle.frame.proofs.count.Laws.{count_past, none_counted, sent_right}
-use Rattle.frame.proofs.refusal.Laws.{kept, last_kept, none_broken, unrefused_is, refused_is, accepted_has}
+use Rattle.frame.proofs.refusal.Laws.{kept, last_kept, none_broken, unrefused_is, accepted_has}
 use Rattle.frame.proofs.frame.Laws.{sizes_at, handed_at}
 
 module _ (first response : List ℕ) where
@@ -56,10 +56,6 @@ module _ (first response : List ℕ) where
   pub read_accepts : read_refusal first response ≡ no_refusal → read_frame first response ≡ accepted (parts_of first response)
   unfolding read_frame
   read_accepts e = unrefused_is (read_refusal first response) (parts_of first response) e
-
-  pub read_refuses : (read_refusal first response ≡ no_refusal → ⊥) → read_frame first response ≡ refused (read_refusal first response)
-  unfolding read_frame
-  read_refuses e = refused_is (read_refusal first response) (parts_of first response) e
 
   cut_size : length (take (response_size (kind_asked first) (length response)) response) ≡ response_size (kind_asked first) (length response)
   cut_size =

@@ -7,7 +7,9 @@ use Prim.Native.Nat.{ℕ, ◌+◌, ◌≤◌, ◌<◌}
 use borrow.Author.Tests.{eq-eqb, ne_eqb, eqb-true, eqb-false}
 use lib.Dec.{eqb}
 use native.Mathlib.Omega.{arith}
-use Rattle.frame.specs.Refusal.{refused, accepted, outcome, Rule, first_broken, times_broken}
+use Rattle.frame.specs.declared.refusal.Refusal.{Refusal}
+use Rattle.frame.specs.declared.refusal.Refusal.TheVariants.{TooLong}
+use Rattle.frame.specs.Refusal.{number_of, refused, accepted, outcome, Rule, first_broken, times_broken}
 use Rattle.frame.proofs.bytes.Laws.{cases}
 
 -- A broken rule gives its number, whatever follows; a kept one passes on.
@@ -149,6 +151,17 @@ unrefused_is n a e = rw (eq-eqb n 0 e)
 
 pub refused_is : {A : Type 0} (n : ℕ) (a : A) → (n ≡ 0 → ⊥) → outcome n a ≡ refused n
 refused_is n a e = rw (ne_eqb n 0 e)
+
+-- No refusal of frames has the number of none.
+numbered : (e : Refusal) → 0 < number_of e
+numbered e = elim e as (λ e. 0 < number_of e) [
+  | TooLong ↦ omega arith
+  | _ ↦ omega arith
+]
+
+-- Where a test refused, what was asked for is refused with the test's number.
+pub refused_by : {A : Type 0} (n : ℕ) (a : A) (e : Refusal) → number_of e ≡ n → outcome n a ≡ refused (number_of e)
+refused_by n a e told = refused_is n a (λ z. omega (arith, numbered e)) ∙ ap refused (sym told)
 
 -- What is accepted had no refusal, and is what was asked for.
 pub accepted_is : {A : Type 0} (n : ℕ) (a b : A) → outcome n a ≡ accepted b → (n ≡ 0) × (a ≡ b)

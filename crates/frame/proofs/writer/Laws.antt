@@ -12,13 +12,13 @@ use Rattle.frame.specs.Response.{is_checked, is_unassigned, sent}
 use Rattle.frame.specs.Count.{wrong_count, data_given}
 use Rattle.frame.specs.Header.{header_size, kind_asked}
 use Rattle.frame.specs.Frame.{Frame, frame_size, most_bytes}
-use Rattle.frame.specs.Refusal.{refused, accepted, no_refusal}
+use Rattle.frame.specs.Refusal.{accepted, no_refusal}
 use Rattle.frame.specs.Writer.{frame_of, write_rules_with, write_rules, write_refusal, write_frame}
 use Rattle.frame.proofs.bytes.Laws.{cases}
 use Rattle.frame.proofs.seal.Laws.{length_sealed}
 use Rattle.frame.proofs.response.Laws.{length_sent}
 use Rattle.frame.proofs.count.Laws.{count_past, none_counted, given_right}
-use Rattle.frame.proofs.refusal.Laws.{kept, last_kept, none_broken, unrefused_is, refused_is, accepted_has}
+use Rattle.frame.proofs.refusal.Laws.{kept, last_kept, none_broken, unrefused_is, accepted_has}
 
 -- The writer's rules, said without an order.
 pub record Writes (header body response : List ℕ) (room : ℕ) : Type 0 where
@@ -82,10 +82,6 @@ module _ (h d a : List ℕ) where
     pub write_accepts : write_refusal h d a room ≡ no_refusal → write_frame h d a room ≡ accepted (frame_of h d a)
     unfolding write_frame
     write_accepts e = unrefused_is (write_refusal h d a room) (frame_of h d a) e
-
-    pub write_refuses : (write_refusal h d a room ≡ no_refusal → ⊥) → write_frame h d a room ≡ refused (write_refusal h d a room)
-    unfolding write_frame
-    write_refuses e = refused_is (write_refusal h d a room) (frame_of h d a) e
 
     -- What is written lies within twelve bytes and within the lent room.
     pub written_within : (f : Frame) → write_frame h d a room ≡ accepted f → (frame_size f ≤ most_bytes) × (frame_size f ≤ room)

@@ -1,5 +1,5 @@
 -- The response is placed; a check byte seals it if its kind has one.
-use Rattle.std.proofs.Common.{◌≡◌, refl, sym, ap, ◌∙◌, true, ◌+◌, arith, length, List, ℕ}
+use Rattle.std.proofs.Common.{◌≡◌, refl, sym, ap, ◌∙◌, true, false, ◌+◌, arith, rules, length, List, ℕ}
 use Rattle.frame.specs.declared.response.ResponseKind.{ResponseKind}
 use Rattle.frame.specs.Bytes.{placed}
 use Rattle.frame.specs.CheckByte.{check_byte}
@@ -16,25 +16,25 @@ put-requires c = omega (arith, sent_longer c.args.kind c.args.response.now)
 
 pub seal-requires : goal.seal-requires
 seal-requires c =
-    let size = checked_size c.args.kind c.args.response.now (sym c.is_checked.ensures ∙ c.if-is_checked.true) in
-    omega (arith, size, c.put.auto)
+    let yes : is_checked c.args.kind ≡ true = search rules in
+    omega (arith, checked_size c.args.kind c.args.response.now yes, c.put.auto)
 
-pub returns-then-is_checked : goal.returns-then-is_checked
-returns-then-is_checked c =
+pub returns-then-eq : goal.returns-then-eq
+returns-then-eq c =
     let a = c.args in
     let response = a.response.now in
-    let yes = sym c.is_checked.ensures ∙ c.if-is_checked.true in
+    let yes : is_checked a.kind ≡ true = search rules in
     let size = checked_size a.kind response yes in
-    let out = a.out.now in
     record {
       placed =
-          sealed_behind check_byte out a.at response c.put.ensures c.seal.ensures refl refl (omega (arith, size))
-          ∙ ap (placed out a.at) (sym (sent_checked a.kind response yes));
+          sealed_behind check_byte a.out.now response c.put.ensures c.seal.ensures refl (omega (arith, size))
+          ∙ ap (placed a.out.now 0) (sym (sent_checked a.kind response yes));
       size = sym size;
     }
 
-pub returns-else-is_checked : goal.returns-else-is_checked
-returns-else-is_checked c =
+pub returns-else-eq : goal.returns-else-eq
+returns-else-eq c =
     let a = c.args in
-    let plain = sent_plain a.kind a.response.now (sym c.is_checked.ensures ∙ c.if-is_checked.false) in
-    record { placed = c.put.ensures ∙ ap (placed a.out.now a.at) (sym plain); size = ap length (sym plain) }
+    let no : is_checked a.kind ≡ false = search rules in
+    let plain = sent_plain a.kind a.response.now no in
+    record { placed = c.put.ensures ∙ ap (placed a.out.now 0) (sym plain); size = ap length (sym plain) }

@@ -6,7 +6,7 @@ use Rattle.frame.specs.Refusal.{first_broken}
 use Rattle.frame.specs.Writer.{write_rules_with, write_rules, write_refusal}
 use Rattle.frame.proofs.header.Laws.{header_range}
 use Rattle.frame.proofs.writer.Laws.{over_most}
-use Rattle.frame.proofs.writer.write_refusal.Goals as goal
+use Rattle.frame.proofs.writer.accept_parts.Goals as goal
 
 pub returns-then-body-gt-MOST_BYTES : goal.returns-then-body-gt-MOST_BYTES
 unfolding write_refusal write_rules write_rules_with first_broken count_refusal count_rules
