@@ -10,11 +10,10 @@ use lib.Dec.{eqb, ltb}
 use lib.ListN.{length, take, drop, length-take}
 use lib.Seq.{get_or-take}
 use Rattle.frame.proofs.bytes.Laws.{cases}
-use Rattle.catalogue.specs.declared.supplement.Checked.{Checked}
 use Rattle.catalogue.specs.Refusal.{supplement_too_long}
 use Rattle.catalogue.specs.Kind.{record_size}
 use Rattle.catalogue.specs.Record.{record_kind, key_of, fault}
-use Rattle.catalogue.specs.Supplement.{records_in, records_of, largest_supplement, check_from, check}
+use Rattle.catalogue.specs.Supplement.{Checked, records_in, records_of, largest_supplement, check_from, check}
 use Rattle.catalogue.specs.Supplement.{Accepted, Sound, Distinct, Good, SupplementObeys, Stands}
 use Rattle.catalogue.proofs.kind.Laws.{size_positive}
 use Rattle.catalogue.proofs.record.Keys.{own_key, new_differs, differs_new}
@@ -72,7 +71,7 @@ apart_free seen (r ∷ rs) each d a =
         known = s.known;
         whole = whole;
         range = s.range;
-        first = differs_new seen r (own_key r s.known whole) (λ q m e. a q m r (Memᴰ.head refl) e);
+        first = differs_new seen (key_of r) (own_key r s.known whole) (λ q m e. a q m r (Memᴰ.head refl) e);
         new = s.new;
       },
       apart_free (seen ++ r ∷ []) rs (λ q m. each q (Memᴰ.tail m)) d.1
@@ -141,6 +140,10 @@ supplement_accepted_exactly s = (forward, backward)
 -- The records of an accepted supplement are good: each known, whole and in range, its key not in the SAE tables, and no key twice.
 pub good : (s : List ℕ) → Accepted s → Good (records_of s)
 good s e = ((supplement_accepted_exactly s).0 e).records
+
+-- What the call tells of an accepted supplement.
+pub checked_accepted : (s : List ℕ) → record { refusal = 0; place = 0 } ≡ check s → Accepted s
+checked_accepted s e = ap (λ (c : Checked). c.refusal) (sym e)
 
 -- Keys are unique in an accepted supplement.
 pub unique : (s : List ℕ) → Accepted s → (r q : List ℕ) → Stands r s → Stands q s → key_of r ≡ key_of q → r ≡ q

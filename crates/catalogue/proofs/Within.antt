@@ -1,9 +1,10 @@
 -- The laws that carry demand 3, and instances.
+use Rattle.std.specs.Option.{option_or}
+use Rattle.std.proofs.Common.{Option, None, Some, unwrap_or, option_map}
+use Rattle.std.proofs.lemmas.Option.{none-some}
 use mathlib.Core.Path.{◌≡◌, refl, sym, ap, ◌∙◌, subst}
 use mathlib.Core.Logic.{◌⊎◌, inl, inr, ⊎_elim}
 use mathlib.Core.Bool.{true, true≢false}
-use mathlib.Core.Option
-use mathlib.Core.Option.{Option, none, some}
 use mathlib.Core.List.Memᴰ
 use mathlib.Core.List.{List, [], ◌∷◌, ◌++◌, Memᴰ}
 use Prim.Native.Nat.{ℕ, ◌<◌}
@@ -13,7 +14,7 @@ use Rattle.catalogue.specs.Kind.{layout_kind}
 use Rattle.catalogue.specs.Sae.{sae_prn, sae_slot}
 use Rattle.catalogue.specs.Record.{has_key, record_with, FullKey, slot_row, prn_row, header_in, selector_length, layout_row}
 use Rattle.catalogue.specs.Supplement.{records_of, Accepted, Distinct, Among, NoNewSelector, Whole}
-use Rattle.catalogue.specs.Lookup.{prn_key, slot_key, selector_key, layout_key, or_record, catalogue_of, catalogue, usual_length, length_for, Within}
+use Rattle.catalogue.specs.Lookup.{prn_key, slot_key, selector_key, layout_key, catalogue_of, catalogue, usual_length, length_for, Within}
 use Rattle.catalogue.proofs.search.Laws.{none_is, none_found}
 use Rattle.catalogue.proofs.record.Keys.{has_start, has_byte, found_record}
 use Rattle.catalogue.proofs.supplement.Distinct.{found_again}
@@ -21,22 +22,29 @@ use Rattle.catalogue.proofs.supplement.Laws.{records_append}
 use Rattle.catalogue.proofs.Accepted.{good}
 use Rattle.catalogue.proofs.lookup.Laws.{prn_key_full, slot_key_full, selector_key_full}
 
--- The SAE tables first, then a record: with what the first search finds, the second answers the same.
+-- A record's row, or the SAE tables first: with what the first search finds, the second answers the same.
+row_same :
+    {B : Type 0} (f : List ℕ → B) (p q : Option (List ℕ))
+    → ((r : List ℕ) → p ≡ Some r → q ≡ Some r)
+    → (b : B)
+    → option_map f p ≡ Some b
+    → option_map f q ≡ Some b
+row_same f None q u b h = absurd (none-some b h)
+row_same f (Some a) q u b h = ap (option_map f) (u a refl) ∙ h
+
 else_same :
     {B : Type 0} (o : Option B) (f : List ℕ → B) (p q : Option (List ℕ))
-    → ((r : List ℕ) → p ≡ some r → q ≡ some r)
+    → ((r : List ℕ) → p ≡ Some r → q ≡ Some r)
     → (b : B)
-    → or_record o f p ≡ some b
-    → or_record o f q ≡ some b
-unfolding or_record
-else_same (some c) f p q u b h = h
-else_same none f none q u b h = absurd (let z : ◌≡◌ {A = ℕ} 0 1 = cc in omega arith)
-else_same none f (some a) q u b h = ap (or_record none f) (u a refl) ∙ h
+    → option_or o (option_map f p) ≡ Some b
+    → option_or o (option_map f q) ≡ Some b
+else_same (Some c) f p q u b h = h
+else_same None f p q u b h = row_same f p q u b h
 
 -- The law that carries demand 3: the records of the first list among those of the second, whose keys are distinct, in any order, give a
 -- catalogue within the other.
 module _ (rs qs : List (List ℕ)) (keys : Distinct qs) (among : (r : List ℕ) → Memᴰ r rs → Memᴰ r qs) where
-  found_within : (key : List ℕ) → FullKey key → (r : List ℕ) → record_with key rs ≡ some r → record_with key qs ≡ some r
+  found_within : (key : List ℕ) → FullKey key → (r : List ℕ) → record_with key rs ≡ Some r → record_with key qs ≡ Some r
   found_within key full r f =
       let is = found_record key rs r f in
       found_again qs keys key r full (among r is.1) is.0
@@ -47,8 +55,8 @@ module _ (rs qs : List (List ℕ)) (keys : Distinct qs) (among : (r : List ℕ) 
       record {
         prn = λ p. else_same (sae_prn p) prn_row _ _ (found_within (prn_key p) (prn_key_full p));
         slot = λ f w n. else_same (sae_slot f w n) slot_row _ _ (found_within (slot_key f w n) (slot_key_full f w n));
-        selector = λ b t. else_same none selector_length _ _ (found_within (selector_key b t) (selector_key_full b t));
-        layout = λ key full. else_same none layout_row _ _ (found_within key full);
+        selector = λ b t. row_same selector_length _ _ (found_within (selector_key b t) (selector_key_full b t));
+        layout = λ key full. row_same layout_row _ _ (found_within key full);
       }
 
 -- "the second supplement has no kind 4 record for any header for which the first has a layout, except those that the first has too": so
@@ -69,21 +77,21 @@ module _
         (r : List ℕ)
         → Memᴰ r rs
         → has_key (selector_key b t) r ≡ true
-        → record_with (selector_key b t) qs ≡ some r
+        → record_with (selector_key b t) qs ≡ Some r
         → (o : Option (List ℕ))
         → record_with (selector_key b t) rs ≡ o
-        → record_with (selector_key b t) rs ≡ some r
+        → record_with (selector_key b t) rs ≡ Some r
     unfolding record_with
-    found_there r m h f none e = absurd (true≢false (sym h ∙ none_is (has_key (selector_key b t)) rs e r m))
-    found_there r m h f (some q) e = e ∙ sym (found_within rs qs keys among (selector_key b t) (selector_key_full b t) q e) ∙ f
+    found_there r m h f None e = absurd (true≢false (sym h ∙ none_is (has_key (selector_key b t)) rs e r m))
+    found_there r m h f (Some q) e = e ∙ sym (found_within rs qs keys among (selector_key b t) (selector_key_full b t) q e) ∙ f
 
     -- A layout of the header in the first list: its kind 4 record in the second stands in the first, so that both searches find it.
     found_both :
         (r : List ℕ)
-        → record_with (selector_key b t) qs ≡ some r
+        → record_with (selector_key b t) qs ≡ Some r
         → (l : List ℕ)
-        → record_with start rs ≡ some l
-        → record_with (selector_key b t) rs ≡ some r
+        → record_with start rs ≡ Some l
+        → record_with (selector_key b t) rs ≡ Some r
     found_both r f l g =
         let is = found_record (selector_key b t) qs r f in
         let has = found_record start rs l g in
@@ -95,10 +103,10 @@ module _
         found_there r stands is.0 f (record_with (selector_key b t) rs) refl
 
     -- No record that begins as a layout of the header does: no selector finds one.
-    no_layout : record_with start rs ≡ none → (selector : List ℕ) → (catalogue_of rs).layout (layout_key b t selector) ≡ none
-    unfolding catalogue_of record_with or_record
+    no_layout : record_with start rs ≡ None → (selector : List ℕ) → (catalogue_of rs).layout (layout_key b t selector) ≡ None
+    unfolding catalogue_of record_with
     no_layout e selector =
-        ap (or_record none layout_row)
+        ap (option_map layout_row)
         (none_found (has_key (layout_key b t selector)) rs
         (λ r m. has_start start _ r (none_is (has_key start) rs e r m)))
 
@@ -108,23 +116,23 @@ module _
         → (p : Option (List ℕ))
         → record_with start rs ≡ p
         → (record_with (selector_key b t) rs ≡ record_with (selector_key b t) qs)
-        ⊎ ((selector : List ℕ) → (catalogue_of rs).layout (layout_key b t selector) ≡ none)
-    alike none e p g = inl (go (record_with (selector_key b t) rs) refl ∙ sym e)
+        ⊎ ((selector : List ℕ) → (catalogue_of rs).layout (layout_key b t selector) ≡ None)
+    alike None e p g = inl (go (record_with (selector_key b t) rs) refl ∙ sym e)
       where
-        go : (q : Option (List ℕ)) → record_with (selector_key b t) rs ≡ q → record_with (selector_key b t) rs ≡ none
-        go none f = f
-        go (some r) f =
-            let both : none ≡ some r = sym e ∙ found_within rs qs keys among (selector_key b t) (selector_key_full b t) r f in
+        go : (q : Option (List ℕ)) → record_with (selector_key b t) rs ≡ q → record_with (selector_key b t) rs ≡ None
+        go None f = f
+        go (Some r) f =
+            let both : None ≡ Some r = sym e ∙ found_within rs qs keys among (selector_key b t) (selector_key_full b t) r f in
             absurd (let z : ◌≡◌ {A = ℕ} 0 1 = cc in omega arith)
-    alike (some r) e none g = inr (no_layout g)
-    alike (some r) e (some l) g = inl (found_both r e l g ∙ sym e)
+    alike (Some r) e None g = inr (no_layout g)
+    alike (Some r) e (Some l) g = inl (found_both r e l g ∙ sym e)
 
     pub lengths_alike :
         (length_for (catalogue_of rs) b t ≡ length_for (catalogue_of qs) b t)
-        ⊎ ((selector : List ℕ) → (catalogue_of rs).layout (layout_key b t selector) ≡ none)
+        ⊎ ((selector : List ℕ) → (catalogue_of rs).layout (layout_key b t selector) ≡ None)
     unfolding catalogue_of length_for
     lengths_alike =
-        ⊎_elim (λ e. inl (ap (λ (o : Option (List ℕ)). Option.get_or (or_record none selector_length o) usual_length) e)) inr
+        ⊎_elim (λ e. inl (ap (λ (o : Option (List ℕ)). unwrap_or (option_map selector_length o) usual_length) e)) inr
         (alike (record_with (selector_key b t) qs) refl (record_with start rs) refl)
 
 -- `within` of two supplements,

@@ -1,3 +1,2 @@
 -- Laws of the SAE tables.
 pub mod Laws
-pub mod Part

@@ -1,11 +1,13 @@
 // A record of a supplement: its key and its fields.
 ghost use Rattle.std.specs.Prelude.{◌≡◌, ◌<◌, drop};
-ghost use Rattle.catalogue.specs.Record.{has_key, two, four, slot_row, prn_row, all_zero};
+ghost use Rattle.catalogue.specs.Kind.{kind_number};
+ghost use Rattle.catalogue.specs.Record.{record_kind, has_key, two, four, slot_row, prn_row};
+ghost use Rattle.frame.specs.Bytes.{all_zero};
 ghost use Rattle.catalogue.specs.Record.{header_fits, selector_length, selector_bytes, selector_fits, layout_fits, in_range, in_sae};
 
-use crate::kind::{LAYOUT, MOST_PRNS, PRN, SELECTOR, SLOT};
+use crate::kind::{Kind, MOST_PRNS};
 use crate::rows::{PrnRow, SlotRow, prn_fits, slot_fits};
-use crate::sae::{has_prn, has_slot};
+use crate::sae;
 use frame::bytes::byte_at;
 
 // Where the fields of a SLOT's key and of a PRN's stand.
@@ -30,18 +32,20 @@ pub(crate) const LAYOUT_COUNT: usize = 6;
 
 pub(crate) const LAYOUT_PRNS: usize = 7;
 
+// Two bytes, of which one test serves both but at the end.
 #[tactic(auto, unfolding(crate::specs::Record::two))]
 pub(crate) fn two_at(bytes: &[u8], i: usize) -> u16
     requires { i < 64 }
     ensures { result ≡ two bytes.now i }
 {
     if i + 1 < bytes.len() {
-        bytes[i] as u16 * 256 + bytes[i + 1] as u16
+        u16::from_be_bytes([bytes[i], bytes[i + 1]])
     } else {
         byte_at(bytes, i) as u16 * 256
     }
 }
 
+// Four bytes, as two numbers of two: any of them may lie past the end, so there is no array to convert.
 #[tactic(auto, unfolding(crate::specs::Record::four))]
 pub(crate) fn four_at(bytes: &[u8], i: usize) -> u32
     requires { i < 60 }
@@ -80,44 +84,35 @@ pub(crate) fn prn_of(bytes: &[u8]) -> PrnRow
     }
 }
 
-// Whether a record starts with that kind and key.
-#[tactic(auto, using(crate::proofs::record::Laws::key_ends, crate::proofs::record::Laws::key_unlike, crate::proofs::record::Laws::key_same))]
+// Whether a record starts with that kind and key. The last byte goes first: there keys differ most often.
 pub(crate) fn has_key(key: &[u8], bytes: &[u8]) -> bool
     ensures { result ≡ has_key key.now bytes.now }
 {
-    let size = key.len();
-    if bytes.len() < size {
+    let [front @ .., last] = key else {
+        return true;
+    };
+    if bytes.len() <= front.len() {
         return false;
     }
-    // The last byte is where keys differ most often; of layouts it is mostly 0.
-    if 0 < size {
-        let last = size - 1;
-        if key[last] != bytes[last] {
-            return false;
-        }
+    if bytes[front.len()] != *last {
+        return false;
     }
-    let mut i: usize = 0;
-    while i < size {
-        if key[i] != bytes[i] {
-            return false;
-        }
-        i += 1;
-    }
-    true
+    bytes.starts_with(front)
 }
 
-// Whether every byte from a place on is zero.
-#[tactic(auto, using(crate::proofs::record::Laws::zero_ends, crate::proofs::record::Laws::zero_next))]
-fn all_zero(bytes: &[u8], from: usize) -> bool
+// Whether every byte is zero. All are read: frame's `is_zero`, which stops at the first that isn't, takes longer.
+#[tactic(auto, using(crate::proofs::record::Laws::none_joined))]
+fn all_zero(bytes: &[u8]) -> bool
+    ensures { result ≡ all_zero bytes.now }
+{
+    bytes.iter().fold(0, |any, &b| any | b) == 0
+}
+
+// The same from a place on.
+fn zero_from(bytes: &[u8], from: usize) -> bool
     ensures { result ≡ all_zero (drop from bytes.now) }
 {
-    let mut any: u8 = 0;
-    let mut i = from;
-    while i < bytes.len() {
-        any |= bytes[i];
-        i += 1;
-    }
-    any == 0
+    bytes.get(from..).is_none_or(|rest| all_zero(rest))
 }
 
 #[tactic(auto, unfolding(crate::specs::Record::header_fits))]
@@ -136,10 +131,8 @@ fn header_fits(first: u8, target: u8) -> bool
 fn selector_fits(bytes: &[u8]) -> bool
     ensures { result ≡ selector_fits bytes.now }
 {
-    if !header_fits(byte_at(bytes, 1), byte_at(bytes, 2)) {
-        return false;
-    }
-    byte_at(bytes, SELECTOR_LENGTH) as usize <= MOST_SELECTOR
+    header_fits(byte_at(bytes, 1), byte_at(bytes, 2))
+        && byte_at(bytes, SELECTOR_LENGTH) as usize <= MOST_SELECTOR
 }
 
 // Whether the selector bytes of a layout that its length leaves unused are zero.
@@ -150,62 +143,48 @@ fn unused_zero(bytes: &[u8]) -> bool
         byte_at(bytes, LAYOUT_SELECTOR),
         byte_at(bytes, LAYOUT_SELECTOR + 1),
     ];
-    all_zero(&selector, byte_at(bytes, SELECTOR_LENGTH) as usize)
+    zero_from(&selector, byte_at(bytes, SELECTOR_LENGTH) as usize)
 }
 
 #[tactic(auto, unfolding(crate::specs::Record::layout_fits))]
 fn layout_fits(bytes: &[u8]) -> bool
     ensures { result ≡ layout_fits bytes.now }
 {
-    if !selector_fits(bytes) {
-        return false;
-    }
-    if !unused_zero(bytes) {
-        return false;
-    }
     let count = byte_at(bytes, LAYOUT_COUNT) as usize;
-    if MOST_PRNS < count {
-        return false;
-    }
-    all_zero(bytes, LAYOUT_PRNS + count * 2)
+    selector_fits(bytes)
+        && unused_zero(bytes)
+        && count <= MOST_PRNS
+        && zero_from(bytes, LAYOUT_PRNS + count * 2)
 }
 
-// Whether every field is in its range; nothing of an unknown kind is.
+// Whether every field of a record of that kind is in its range.
 #[tactic(auto, unfolding(crate::specs::Record::in_range))]
-pub(crate) fn in_range(bytes: &[u8]) -> bool
+pub(crate) fn in_range(kind: Kind, bytes: &[u8]) -> bool
+    requires { kind_number kind ≡ record_kind bytes.now }
     ensures { result ≡ in_range bytes.now }
 {
-    let kind = byte_at(bytes, 0);
-    if kind == SLOT {
-        return slot_fits(slot_of(bytes));
+    match kind {
+        Kind::Slot => slot_fits(slot_of(bytes)),
+        Kind::Prn => prn_fits(prn_of(bytes)),
+        Kind::Layout => layout_fits(bytes),
+        Kind::Selector => selector_fits(bytes),
     }
-    if kind == PRN {
-        return prn_fits(prn_of(bytes));
-    }
-    if kind == LAYOUT {
-        return layout_fits(bytes);
-    }
-    if kind == SELECTOR {
-        return selector_fits(bytes);
-    }
-    false
 }
 
 // Whether the key is in the SAE tables, which have SLOTs and PRNs. Only the key is read: to read the whole row takes longer.
 #[tactic(auto, unfolding(crate::specs::Record::in_sae, crate::specs::Record::slot_row, crate::specs::Record::prn_row))]
-pub(crate) fn in_sae(bytes: &[u8]) -> bool
+pub(crate) fn in_sae(kind: Kind, bytes: &[u8]) -> bool
+    requires { kind_number kind ≡ record_kind bytes.now }
     ensures { result ≡ in_sae bytes.now }
 {
-    let kind = byte_at(bytes, 0);
-    if kind == SLOT {
-        return has_slot(
-            byte_at(bytes, SLOT_FORM),
-            byte_at(bytes, SLOT_WIDTH),
-            two_at(bytes, SLOT_NUMBER),
-        );
+    match kind {
+        Kind::Slot => {
+            let form = byte_at(bytes, SLOT_FORM);
+            let width = byte_at(bytes, SLOT_WIDTH);
+            sae::slot_row(form, width, two_at(bytes, SLOT_NUMBER)).is_some()
+        }
+        Kind::Prn => sae::prn_row(two_at(bytes, PRN_NUMBER)).is_some(),
+        Kind::Layout => false,
+        Kind::Selector => false,
     }
-    if kind == PRN {
-        return has_prn(two_at(bytes, PRN_NUMBER));
-    }
-    false
 }

@@ -1,12 +1,28 @@
 // The refusals of a supplement: document 01, "Refusal numbers".
-pub const SUPPLEMENT_TOO_LONG: u8 = 10;
+ghost use Rattle.std.specs.Prelude.{◌≡◌};
+ghost use Rattle.catalogue.specs.Refusal.{number_of};
 
-pub const UNKNOWN_KIND: u8 = 11;
+#[derive(Clone, Copy, Debug, PartialEq, Eq)]
+pub enum Refusal {
+    TooLong = 10,
+    UnknownKind = 11,
+    CutByEnd = 12,
+    OutsideRange = 13,
+    KeyRepeated = 14,
+    KeyInSae = 15,
+}
 
-pub const CUT_BY_END: u8 = 12;
+impl Refusal {
+    pub fn number(self) -> u8
+        ensures { result ≡ number_of self }
+    {
+        self as u8
+    }
+}
 
-pub const OUTSIDE_RANGE: u8 = 13;
-
-pub const KEY_REPEATED: u8 = 14;
-
-pub const KEY_IN_SAE: u8 = 15;
+// A refusal, and the place of the record with the fault; for TooLong the place is 0.
+#[derive(Clone, Copy, Debug, PartialEq, Eq)]
+pub struct Fault {
+    pub refusal: Refusal,
+    pub place: usize,
+}

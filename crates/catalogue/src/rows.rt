@@ -2,7 +2,8 @@
 ghost use Rattle.std.specs.Prelude.{◌≡◌, ◌+◌, ◌%◌, ◌^◌};
 ghost use Rattle.catalogue.specs.Rows.{key_fits, in_order, prn_fits, slot_fits};
 
-// The forms.
+// The forms. A row has its form as a number, since a supplement that nobody tested may have any byte there, and find_prn and find_slot
+// promise that byte.
 pub const UNM: u8 = 1;
 
 pub const SNM: u8 = 2;
@@ -33,12 +34,6 @@ pub struct PrnRow {
     pub slot: u16,
 }
 
-#[derive(Clone, Copy)]
-pub enum PrnFound {
-    Missing,
-    Found(PrnRow),
-}
-
 // A SLOT: key, scaling and raw limits. The offset is a 32-bit pattern in two's complement, and so are the limits of SNM.
 #[derive(Clone, Copy)]
 pub struct SlotRow {
@@ -52,34 +47,20 @@ pub struct SlotRow {
     pub highest: u32,
 }
 
-#[derive(Clone, Copy)]
-pub enum SlotFound {
-    Missing,
-    Found(SlotRow),
-}
-
 // Whether form and width are in range.
 #[tactic(auto, unfolding(crate::specs::Rows::key_fits))]
 fn key_fits(form: u8, width: u8) -> bool
     ensures { result ≡ key_fits form width }
 {
-    if form < UNM {
-        return false;
-    }
-    if PKT < form {
-        return false;
-    }
-    if width < 1 {
-        return false;
-    }
-    width <= WIDEST
+    (UNM..=PKT).contains(&form) && (1..=WIDEST).contains(&width)
 }
 
-// A pattern moved up by half of its range, so that signed order is the order of numbers.
-fn raised(pattern: u32) -> u64
+// A pattern moved up by half of its range, so that signed order is the order of numbers, as the definition `in_order` has it:
+// `cast_signed` would need a law that both orders agree.
+fn raised(pattern: u32) -> u32
     ensures { result ≡ (pattern + 2 ^ 31) % 2 ^ 32 }
 {
-    (pattern as u64 + 0x8000_0000) % 0x1_0000_0000
+    pattern.wrapping_add(0x8000_0000)
 }
 
 // Whether the lowest raw number is not above the highest, as signed for SNM.
@@ -105,11 +86,5 @@ pub(crate) fn prn_fits(row: PrnRow) -> bool
 pub(crate) fn slot_fits(row: SlotRow) -> bool
     ensures { result ≡ slot_fits row }
 {
-    if !key_fits(row.form, row.width) {
-        return false;
-    }
-    if row.divisor < 1 {
-        return false;
-    }
-    in_order(row.form, row.lowest, row.highest)
+    key_fits(row.form, row.width) && 1 <= row.divisor && in_order(row.form, row.lowest, row.highest)
 }

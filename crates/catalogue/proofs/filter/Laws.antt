@@ -1,4 +1,5 @@
 -- Laws of the filter of keys.
+use Rattle.std.proofs.Common.{is_some}
 use mathlib.Core.Path.{◌≡◌, sym, ap, ◌∙◌}
 use mathlib.Core.Logic.{⊎_elim}
 use mathlib.Core.Bool.{Bool, true, false, true≢false}
@@ -14,11 +15,9 @@ use lib.ListN.{length, get_or, set, length-set}
 use lib.Pow.{pow_pos, pow-lt}
 use lib.Seq.{get_or-set_same, get_or-set_other}
 use Rattle.frame.proofs.bytes.Laws.{cases}
-use Rattle.catalogue.specs.Search.{is_found}
-use Rattle.catalogue.specs.Kind.{record_size, known}
-use Rattle.catalogue.specs.Record.{record_kind, key_of, record_with}
+use Rattle.catalogue.specs.Record.{key_of, record_with, FullKey}
 use Rattle.catalogue.specs.Inner.{word_bits, bit_of, bit_in, word_of, marked, Marks, Covers}
-use Rattle.catalogue.proofs.record.Keys.{own_key, differs_new}
+use Rattle.catalogue.proofs.record.Keys.{differs_new}
 
 -- A bit of two words joined is set where one of them has it.
 or_bit : (a b k : ℕ) → bit_or a b / 2 ^ k % 2 ≡ max (a / 2 ^ k % 2) (b / 2 ^ k % 2)
@@ -124,12 +123,14 @@ module _ (f g : List ℕ) (seen : List (List ℕ)) (r : List ℕ) {answer : Bool
       (λ (t : Memᴰ q (r ∷ [])). ap (λ (p : List ℕ). marked g (bit_of (key_of p))) (Memᴰ.eq_of_singleton t) ∙ marks.set)
       (Memᴰ.append_cases seen m)
 
-  -- Equal keys have the same bit, so a key whose bit was not set is new.
-  pub surely_new :
-      answer ≡ false
-      → known (record_kind r) ≡ true
-      → record_size (record_kind r) ≤ length r
-      → is_found (record_with (key_of r) seen) ≡ false
-  surely_new e known whole =
-      differs_new seen r (own_key r known whole)
-      (λ q m same. true≢false (sym (covers q m) ∙ ap (λ (k : List ℕ). marked f (bit_of k)) same ∙ sym marks.told ∙ e))
+-- Equal keys have the same bit, so a key whose bit was not set is new.
+pub surely_new :
+    {f g key : List ℕ} {seen : List (List ℕ)} {answer : Bool}
+    → FullKey key
+    → Marks f g key answer
+    → Covers f seen
+    → answer ≡ false
+    → is_some (record_with key seen) ≡ false
+surely_new {f} {g} {key} {seen} full marks covers e =
+    differs_new seen key full
+    (λ q m same. true≢false (sym (covers q m) ∙ ap (λ (k : List ℕ). marked f (bit_of k)) same ∙ sym marks.told ∙ e))

@@ -1,10 +1,11 @@
 -- Records of the former form, each layout with its zero, are found as they were.
+use Rattle.std.proofs.Math.Bool.{and-false}
+use Rattle.std.specs.Option.{option_or}
+use Rattle.std.proofs.Common.{Option, Some, unwrap_or, option_map}
 use mathlib.Core.Path.{◌≡◌, refl, sym, ap, ◌∙◌, subst}
 use mathlib.Core.Bool.{Bool, true, false, cond, ◌&&◌}
 use mathlib.Core.List.Memᴰ
 use mathlib.Core.List.{List, [], ◌∷◌, ◌++◌, map, Memᴰ}
-use mathlib.Core.Option
-use mathlib.Core.Option.{Option, none, some}
 use Prim.Native.Nat.{ℕ, zero, suc, ◌+◌, ◌*◌, ◌≤◌, ◌<◌}
 use native.Mathlib.Omega.{arith}
 use borrow.Author.Tests.{eq-eqb, ne_eqb, eqb-true, eqb-false, leb-true}
@@ -18,7 +19,7 @@ use Rattle.catalogue.specs.Sae.{sae_prn, sae_slot}
 use Rattle.catalogue.specs.Record.{most_prns, record_kind, has_key, record_with, two, numbers, prn_row, slot_row, layout_row}
 use Rattle.catalogue.specs.Record.{selector_length, selector_bytes, most_selector, layout_count, prns_at, header_fits, selector_fits}
 use Rattle.catalogue.specs.Supplement.{records_of, Stands, Accepted, Sound}
-use Rattle.catalogue.specs.Lookup.{prn_key, slot_key, selector_key, or_record, catalogue_of, usual_length, length_for}
+use Rattle.catalogue.specs.Lookup.{prn_key, slot_key, selector_key, catalogue_of, usual_length, length_for}
 use Rattle.catalogue.specs.Former.{former_key, former_key_size, former_row, gained, grown, former_size, FormerLayout, former_catalogue, AsFormer}
 use Rattle.catalogue.proofs.search.Laws.{both, none_found, first_taken, first_passed}
 use Rattle.catalogue.proofs.kind.Laws.{layout_size}
@@ -35,16 +36,11 @@ grown_other : (r : List ℕ) → (record_kind r ≡ layout_kind → ⊥) → gro
 unfolding grown
 grown_other r n = rw (ne_eqb (record_kind r) layout_kind n)
 
--- A key with a zero behind it is that of a record with the zero there.
-none_and : (a : Bool) → (a && false) ≡ false
-none_and true = refl
-none_and false = refl
-
 key_grown : (key r : List ℕ) → has_key (key ++ 0 ∷ []) (take (length key) r ++ 0 ∷ drop (length key) r) ≡ has_key key r
 unfolding has_key
 key_grown [] r = refl
-key_grown (k ∷ []) [] = none_and (eqb k 0)
-key_grown (k ∷ l ∷ key) [] = none_and (eqb k 0)
+key_grown (k ∷ []) [] = and-false (eqb k 0)
+key_grown (k ∷ l ∷ key) [] = and-false (eqb k 0)
 key_grown (k ∷ key) (b ∷ r) = ap (λ (x : Bool). eqb k b && x) (key_grown key r)
 
 -- A record of another kind stays, and a key of another kind finds what it found.
@@ -68,20 +64,19 @@ module _
     (fits : (r : List ℕ) → has_key key (grown r) ≡ has_key key' r)
     (same : (r : List ℕ) → has_key key' r ≡ true → row (grown r) ≡ row' r)
   where
-    grown_found : (o : Option B) (rs : List (List ℕ)) → or_record o row (record_with key (map grown rs)) ≡ or_record o row' (record_with key' rs)
-    unfolding or_record record_with first_where
-    grown_found (some b) rs = refl
-    grown_found none [] = refl
-    grown_found none (r ∷ rs) =
+    grown_found : (rs : List (List ℕ)) → option_map row (record_with key (map grown rs)) ≡ option_map row' (record_with key' rs)
+    unfolding record_with first_where
+    grown_found [] = refl
+    grown_found (r ∷ rs) =
         cases (has_key key' r)
         (λ t.
-        ap (or_record none row) (first_taken (has_key key) (grown r) (map grown rs) (fits r ∙ t))
-        ∙ ap some (same r t)
-        ∙ sym (ap (or_record none row') (first_taken (has_key key') r rs t)))
+        ap (option_map row) (first_taken (has_key key) (grown r) (map grown rs) (fits r ∙ t))
+        ∙ ap Some (same r t)
+        ∙ sym (ap (option_map row') (first_taken (has_key key') r rs t)))
         (λ f.
-        ap (or_record none row) (first_passed (has_key key) (grown r) (map grown rs) (fits r ∙ f))
-        ∙ grown_found none rs
-        ∙ sym (ap (or_record none row') (first_passed (has_key key') r rs f)))
+        ap (option_map row) (first_passed (has_key key) (grown r) (map grown rs) (fits r ∙ f))
+        ∙ grown_found rs
+        ∙ sym (ap (option_map row') (first_passed (has_key key') r rs f)))
 
 -- A row of another kind is read from the same record.
 other_row : {B : Type 0} (row : List ℕ → B) (k : ℕ) (key r : List ℕ) → (k ≡ layout_kind → ⊥) → has_key (k ∷ key) r ≡ true → row (grown r) ≡ row r
@@ -138,14 +133,16 @@ module _ (rs : List (List ℕ)) where
   pub former_prn : (p : ℕ) → (catalogue_of (map grown rs)).prn p ≡ (former_catalogue rs).prn p
   unfolding catalogue_of former_catalogue
   former_prn p =
-      grown_found prn_row prn_row (prn_key p) (prn_key p) (λ r. other_key _ _ r (λ e. omega arith)) (λ r e. other_row prn_row _ _ r (λ e. omega arith) e)
-      (sae_prn p) rs
+      ap (option_or (sae_prn p))
+      (grown_found prn_row prn_row (prn_key p) (prn_key p) (λ r. other_key _ _ r (λ e. omega arith)) (λ r e. other_row prn_row _ _ r (λ e. omega arith) e)
+      rs)
 
   pub former_slot : (f w n : ℕ) → (catalogue_of (map grown rs)).slot f w n ≡ (former_catalogue rs).slot f w n
   unfolding catalogue_of former_catalogue
   former_slot f w n =
-      grown_found slot_row slot_row (slot_key f w n) (slot_key f w n) (λ r. other_key _ _ r (λ e. omega arith))
-      (λ r e. other_row slot_row _ _ r (λ e. omega arith) e) (sae_slot f w n) rs
+      ap (option_or (sae_slot f w n))
+      (grown_found slot_row slot_row (slot_key f w n) (slot_key f w n) (λ r. other_key _ _ r (λ e. omega arith))
+      (λ r e. other_row slot_row _ _ r (λ e. omega arith) e) rs)
 
   -- "the old layout key is the new one with length and zero"
   pub former_layout :
@@ -153,14 +150,14 @@ module _ (rs : List (List ℕ)) where
   unfolding catalogue_of former_catalogue
   former_layout b t x y =
       grown_found layout_row former_row (former_key b t x y ++ 0 ∷ []) (former_key b t x y) (layout_key_lem b t x y)
-      (λ r e. row_grown r (has_kind (former_key b t x y) r (omega arith) e) (has_whole (former_key b t x y) r e)) none rs
+      (λ r e. row_grown r (has_kind (former_key b t x y) r (omega arith) e) (has_whole (former_key b t x y) r e)) rs
 
 -- "a header without one keeps length 1"
 pub usual_length_lem :
     (rs : List (List ℕ)) → ((r : List ℕ) → Memᴰ r rs → record_kind r ≡ selector_kind → ⊥) → (b t : ℕ) → length_for (catalogue_of rs) b t ≡ usual_length
-unfolding length_for catalogue_of record_with or_record
+unfolding length_for catalogue_of record_with
 usual_length_lem rs none_of b t =
-    ap (λ (o : Option (List ℕ)). Option.get_or (or_record none selector_length o) usual_length)
+    ap (λ (o : Option (List ℕ)). unwrap_or (option_map selector_length o) usual_length)
     (none_found (has_key (selector_key b t)) rs
     (λ r m. cases (has_key (selector_key b t) r) (λ e. absurd (none_of r m (has_kind (selector_key b t) r (omega arith) e))) (λ f. f)))
 

@@ -1,14 +1,16 @@
 -- Laws of kinds: what holds of each by one computed test, and so at every number.
-use mathlib.Core.Path.{◌≡◌, refl, sym, ap}
-use mathlib.Core.Bool.{true, not, ◌&&◌, true≢false}
-use mathlib.Core.Option.{Option, none, some}
+use Rattle.std.proofs.Common.{Option, None, Some, is_some}
+use mathlib.Core.Path.{◌≡◌, refl, sym, ap, ◌∙◌}
+use mathlib.Core.Bool.{true, false, not, ◌&&◌, true≢false}
 use Prim.Native.Nat.{ℕ, ◌≤◌}
 use native.Mathlib.Omega.{arith}
 use borrow.Author.Tests.{leb-true, ltb-true, lt-leb, ne_eqb}
 use lib.Dec.{eqb, leb, ltb}
-use Rattle.catalogue.specs.Search.{first_where, is_found, every}
+use Rattle.catalogue.specs.Search.{first_where, every}
 use Rattle.catalogue.specs.Kind.{slot_kind, prn_kind, layout_kind, selector_kind}
-use Rattle.catalogue.specs.Kind.{Kind, kinds, kind_holds, kinds_hold, kind_found, known, or_unknown, record_size, key_size}
+use Rattle.catalogue.specs.declared.kind.Kind as declared
+use Rattle.catalogue.specs.declared.kind.Kind.TheVariants.{Slot, Prn, Layout, Selector}
+use Rattle.catalogue.specs.Kind.{kind_number, Kind, kinds, kind_holds, kinds_hold, kind_found, known, or_unknown, record_size, key_size}
 use Rattle.catalogue.proofs.search.Laws.{both, found_is, every_is}
 
 kinds_hold_lem : kinds_hold ≡ true
@@ -33,13 +35,13 @@ layout_size = refl
 record Sized (o : Option Kind) : Type 0 where
   least : 1 ≤ (or_unknown o).size
   within : (or_unknown o).key ≤ (or_unknown o).size
-  keyed : is_found o ≡ true → 1 ≤ (or_unknown o).key
-  told : not (is_found o) ≡ leb (or_unknown o).size 1
+  keyed : is_some o ≡ true → 1 ≤ (or_unknown o).key
+  told : not (is_some o) ≡ leb (or_unknown o).size 1
 
-sized : (o : Option Kind) → ((k : Kind) → o ≡ some k → kind_holds k ≡ true) → Sized o
-unfolding or_unknown is_found
-sized none h = record { least = omega arith; within = omega arith; keyed = λ e. absurd (true≢false (sym e)); told = refl }
-sized (some k) h =
+sized : (o : Option Kind) → ((k : Kind) → o ≡ Some k → kind_holds k ≡ true) → Sized o
+unfolding or_unknown
+sized None h = record { least = omega arith; within = omega arith; keyed = λ e. absurd (true≢false (sym e)); told = refl }
+sized (Some k) h =
     let two = both (ltb 1 k.size && ltb 1 k.key) (leb k.key k.size) (h k refl) in
     let one = both (ltb 1 k.size) (ltb 1 k.key) two.0 in
     let size = ltb-true 1 k.size one.0 in
@@ -77,7 +79,7 @@ module _ (kind : ℕ) where
   unknown_told = kind_sized.told
 
   -- The kinds are these.
-  unlisted : (kind ≡ slot_kind → ⊥) → (kind ≡ prn_kind → ⊥) → (kind ≡ layout_kind → ⊥) → (kind ≡ selector_kind → ⊥) → kind_found kind ≡ none
+  unlisted : (kind ≡ slot_kind → ⊥) → (kind ≡ prn_kind → ⊥) → (kind ≡ layout_kind → ⊥) → (kind ≡ selector_kind → ⊥) → kind_found kind ≡ None
   unfolding kind_found kinds first_where
   unlisted a b c d =
       rw (
@@ -94,3 +96,20 @@ module _ (kind : ℕ) where
   pub key_unlisted : (kind ≡ slot_kind → ⊥) → (kind ≡ prn_kind → ⊥) → (kind ≡ layout_kind → ⊥) → (kind ≡ selector_kind → ⊥) → key_size kind ≡ 0
   unfolding key_size or_unknown
   key_unlisted a b c d = ap (λ (o : Option Kind). (or_unknown o).key) (unlisted a b c d)
+
+  pub unlisted_told :
+      (kind ≡ slot_kind → ⊥) → (kind ≡ prn_kind → ⊥) → (kind ≡ layout_kind → ⊥) → (kind ≡ selector_kind → ⊥) → known kind ≡ false
+  unfolding known
+  unlisted_told a b c d = ap is_some (unlisted a b c d)
+
+  pub size_unknown : known kind ≡ false → record_size kind ≡ 1
+  unfolding record_size
+  size_unknown e = omega (arith, leb-true (record_size kind) 1 (sym unknown_told ∙ ap not e), size_positive)
+
+-- Each kind by name is known.
+pub named_known : (k : declared.Kind) → known (kind_number k) ≡ true
+unfolding known kind_found kinds first_where
+named_known Slot = refl
+named_known Prn = refl
+named_known Layout = refl
+named_known Selector = refl

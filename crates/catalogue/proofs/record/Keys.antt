@@ -1,7 +1,7 @@
 -- Laws of keys: what a kind and key finds in a list of records.
+use Rattle.std.proofs.Common.{Some, is_some}
 use mathlib.Core.Path.{◌≡◌, refl, sym, ap, ◌∙◌}
 use mathlib.Core.Bool.{true, false, true≢false}
-use mathlib.Core.Option.{some}
 use mathlib.Core.List.{List, [], ◌∷◌, ◌++◌, Memᴰ}
 use Prim.Native.Nat.{ℕ, zero, suc, ◌≤◌, ◌<◌}
 use native.Mathlib.Omega.{arith}
@@ -10,7 +10,6 @@ use lib.Dec.{eqb}
 use lib.ListN.{length, take, get_or}
 use lib.Seq.{get_or-take, length-take-le}
 use Rattle.frame.proofs.bytes.Laws.{cases}
-use Rattle.catalogue.specs.Search.{is_found}
 use Rattle.catalogue.specs.Kind.{record_size, key_size, known}
 use Rattle.catalogue.specs.Record.{record_kind, key_of, has_key, record_with, FullKey}
 use Rattle.catalogue.proofs.search.Laws.{both, found_is, none_is, none_found, not_found}
@@ -62,13 +61,13 @@ own_key r known whole =
     }
 
 -- What is found has the key and stands in the list.
-pub found_record : (key : List ℕ) (rs : List (List ℕ)) (r : List ℕ) → record_with key rs ≡ some r → (has_key key r ≡ true) × Memᴰ r rs
+pub found_record : (key : List ℕ) (rs : List (List ℕ)) (r : List ℕ) → record_with key rs ≡ Some r → (has_key key r ≡ true) × Memᴰ r rs
 unfolding record_with
 found_record key rs r e = found_is (has_key key) rs r e
 
 -- A record is new after those seen exactly when none of them has its key.
 module _ (seen : List (List ℕ)) (r : List ℕ) where
-  pub new_differs : is_found (record_with (key_of r) seen) ≡ false → (q : List ℕ) → Memᴰ q seen → key_of q ≡ key_of r → ⊥
+  pub new_differs : is_some (record_with (key_of r) seen) ≡ false → (q : List ℕ) → Memᴰ q seen → key_of q ≡ key_of r → ⊥
   unfolding record_with
   new_differs e q m same =
       true≢false
@@ -76,12 +75,13 @@ module _ (seen : List (List ℕ)) (r : List ℕ) where
       ∙ ap (λ (k : List ℕ). has_key k q) same
       ∙ none_is (has_key (key_of r)) seen (not_found _ e) q m)
 
-  pub differs_new :
-      FullKey (key_of r)
-      → ((q : List ℕ) → Memᴰ q seen → key_of q ≡ key_of r → ⊥)
-      → is_found (record_with (key_of r) seen) ≡ false
-  unfolding is_found record_with
-  differs_new f d =
-      ap is_found
-      (none_found (has_key (key_of r)) seen
-      (λ q m. cases (has_key (key_of r) q) (λ t. absurd (d q m (key_is_lem (key_of r) q f t))) (λ n. n)))
+pub differs_new :
+    (seen : List (List ℕ)) (key : List ℕ)
+    → FullKey key
+    → ((q : List ℕ) → Memᴰ q seen → key_of q ≡ key → ⊥)
+    → is_some (record_with key seen) ≡ false
+unfolding record_with
+differs_new seen key f d =
+    ap is_some
+    (none_found (has_key key) seen
+    (λ q m. cases (has_key key q) (λ t. absurd (d q m (key_is_lem key q f t))) (λ n. n)))

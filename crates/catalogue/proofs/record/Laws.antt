@@ -1,30 +1,44 @@
 -- Laws of a record's key and fields.
+use Rattle.std.proofs.Common.{is_some}
 use mathlib.Core.Path.{◌≡◌, refl, sym, ap, ◌∙◌}
-use mathlib.Core.Bool.{true, false, ◌&&◌}
+use mathlib.Core.Bool.{Bool, true, false, ◌&&◌}
 use mathlib.Core.List.{List, [], ◌∷◌}
 use Prim.Native.Nat.{ℕ, zero, suc, ◌+◌, ◌*◌, ◌^◌, ◌≤◌, ◌<◌}
-use native.Mathlib.Numerals.{add-one}
 use native.Mathlib.Omega.{arith}
 use borrow.Author.Tests.{eq-eqb, ne_eqb, eqb-true, eqb-false}
 use lib.Bits.{bit_or, or_add_and, and_le_r}
 use lib.Dec.{eqb, leb}
-use lib.ListN.{length, drop, get_or, drop_of_length-le}
-use lib.Seq.{drop-cons}
-use Rattle.frame.specs.Bytes.{Bytes}
+use lib.ListN.{length, take, drop, get_or}
+use Rattle.std.specs.List.{starts_with, fold}
+use Rattle.frame.specs.Bytes.{Bytes, all_zero}
 use Rattle.frame.proofs.bytes.Laws.{cases}
 use Rattle.catalogue.specs.Rows.{prn_fits, slot_fits, slot_sized}
-use Rattle.catalogue.specs.Search.{is_found}
 use Rattle.catalogue.specs.Sae.{sae_prn, sae_slot}
 use Rattle.catalogue.specs.Kind.{slot_kind, prn_kind, layout_kind, selector_kind}
-use Rattle.catalogue.specs.Record.{record_kind, has_key, two, four, slot_row, prn_row, numbers, all_zero, in_range, in_sae}
+use Rattle.catalogue.specs.Record.{record_kind, has_key, two, four, slot_row, prn_row, numbers, in_range, in_sae}
 use Rattle.catalogue.specs.Record.{selector_length, selector_bytes, most_prns, layout_count, prns_at, selector_fits, layout_fits}
 use Rattle.catalogue.proofs.search.Laws.{both}
 use Rattle.catalogue.proofs.rows.Laws.{sized_slot}
 
--- A key is compared byte by byte.
-pub key_ends : (key r : List ℕ) (i : ℕ) → length key ≤ i → has_key (drop i key) (drop i r) ≡ true
+-- Every record starts with the empty key.
+pub no_key : (key r : List ℕ) → length key < 1 → true ≡ has_key key r
 unfolding has_key
-key_ends key r i h = rw (drop_of_length-le key {i = i} h)
+no_key [] r h = refl
+no_key (k ∷ key) r h = absurd (omega arith)
+
+-- Where its last byte stands in the record, the key may be compared without it.
+pub last_like :
+    (key r : List ℕ) (n : ℕ)
+    → n + 1 ≡ length key
+    → n < length r
+    → get_or key n 0 ≡ get_or r n 0
+    → has_key key r ≡ starts_with eqb r (take n key)
+unfolding has_key
+last_like [] r n l h e = absurd (omega arith)
+last_like (k ∷ key) [] n l h e = absurd (omega arith)
+last_like (k ∷ []) (b ∷ r) zero l h e = rw (eq-eqb k b e)
+last_like (k ∷ j ∷ key) (b ∷ r) zero l h e = absurd (omega arith)
+last_like (k ∷ key) (b ∷ r) (suc n) l h e = ap (λ (x : Bool). eqb k b && x) (last_like key r n (omega arith) (omega arith) e)
 
 -- A record that ends before a byte of the key, or has another there, does not have the key.
 pub key_unlike : (key r : List ℕ) (i : ℕ) → i < length key → (i < length r → get_or key i 0 ≡ get_or r i 0 → ⊥) → has_key key r ≡ false
@@ -35,33 +49,23 @@ key_unlike (k ∷ key) (b ∷ r) zero h n = rw (ne_eqb k b (n (omega arith)))
 key_unlike (k ∷ key) (b ∷ r) (suc i) h n =
     cases (eqb k b) (λ t. rw t (key_unlike key r i (omega arith) (λ l e. n (omega arith) e))) (λ f. rw f)
 
-pub key_same :
-    (key r : List ℕ) (i : ℕ)
-    → i < length key
-    → i < length r
-    → get_or key i 0 ≡ get_or r i 0
-    → has_key (drop i key) (drop i r) ≡ has_key (drop (i + 1) key) (drop (i + 1) r)
-unfolding has_key
-key_same key r i h l e = rw (add-one, drop-cons key i 0 h, drop-cons r i 0 l, eq-eqb (get_or key i 0) (get_or r i 0) e)
-
--- Two bytes joined are zero exactly when both are.
+-- Two bytes joined are zero exactly when both are, and so are all.
 or_zero : (a b : ℕ) → eqb (bit_or a b) 0 ≡ (eqb a 0 && eqb b 0)
 or_zero a b =
     cases (eqb a 0)
     (λ t. let e : a ≡ 0 = eqb-true a 0 t in rw (t, e))
     (λ f. rw f (ne_eqb (bit_or a b) 0 (λ e. eqb-false a 0 f (omega (arith, or_add_and a b, and_le_r a b)))))
 
--- What follows a place is all zero if the byte there and what follows it are. `any` has the bytes joined before it.
-pub zero_ends : (s : List ℕ) (i any : ℕ) → length s ≤ i → (eqb any 0 && all_zero (drop i s)) ≡ eqb any 0
-unfolding all_zero
-zero_ends s i any h = rw (drop_of_length-le s {i = i} h) (cases (eqb any 0) (λ t. rw t) (λ f. rw f))
+joined_zero : (s : List ℕ) (any : ℕ) → eqb (fold bit_or any s) 0 ≡ (eqb any 0 && all_zero s)
+joined_zero [] any = cases (eqb any 0) (λ t. rw t) (λ f. rw f)
+joined_zero (b ∷ s) any = joined_zero s (bit_or any b) ∙ rw (or_zero any b) (and_assoc (eqb any 0) (eqb b 0) (all_zero s))
+  where
+    and_assoc : (a b c : Bool) → ((a && b) && c) ≡ (a && (b && c))
+    and_assoc true b c = refl
+    and_assoc false b c = refl
 
-pub zero_next :
-    (s : List ℕ) (i any : ℕ)
-    → i < length s
-    → (eqb any 0 && all_zero (drop i s)) ≡ (eqb (bit_or any (get_or s i 0)) 0 && all_zero (drop (i + 1) s))
-unfolding all_zero
-zero_next s i any h = rw (add-one, drop-cons s i 0 h, or_zero any (get_or s i 0)) (cases (eqb any 0) (λ t. rw t) (λ f. rw f))
+pub none_joined : (s : List ℕ) → eqb (fold bit_or 0 s) 0 ≡ all_zero s
+none_joined s = joined_zero s 0
 
 -- The range test and the SAE test by kind.
 module _ (r : List ℕ) where
@@ -91,11 +95,11 @@ module _ (r : List ℕ) where
   range_unknown a b c d =
       rw (ne_eqb (record_kind r) slot_kind a, ne_eqb (record_kind r) prn_kind b, ne_eqb (record_kind r) layout_kind c, ne_eqb (record_kind r) selector_kind d)
 
-  pub sae_slot_lem : record_kind r ≡ slot_kind → in_sae r ≡ is_found (sae_slot (slot_row r).form (slot_row r).width (slot_row r).number)
+  pub sae_slot_lem : record_kind r ≡ slot_kind → in_sae r ≡ is_some (sae_slot (slot_row r).form (slot_row r).width (slot_row r).number)
   unfolding in_sae
   sae_slot_lem e = rw e
 
-  pub sae_prn_lem : record_kind r ≡ prn_kind → in_sae r ≡ is_found (sae_prn (prn_row r).prn)
+  pub sae_prn_lem : record_kind r ≡ prn_kind → in_sae r ≡ is_some (sae_prn (prn_row r).prn)
   unfolding in_sae
   sae_prn_lem e = rw e
 
@@ -120,7 +124,6 @@ layout_has r kind e =
 
 -- Zeros from a place on are at each place behind it.
 pub zero_from : (r : List ℕ) (n i : ℕ) → all_zero (drop n r) ≡ true → n ≤ i → get_or r i 0 ≡ 0
-unfolding all_zero
 zero_from [] n i e h = refl
 zero_from (b ∷ r) zero zero e h = eqb-true b 0 (both (eqb b 0) (all_zero r) e).0
 zero_from (b ∷ r) zero (suc i) e h = zero_from r zero i (both (eqb b 0) (all_zero r) e).1 (omega arith)

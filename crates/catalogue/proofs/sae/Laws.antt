@@ -1,28 +1,26 @@
--- Laws of the SAE tables: what their rule gives at each row, and in each part.
+-- Laws of the SAE tables: what their rule gives at each row, and that a search by key finds the row.
+use Rattle.std.proofs.Common.{Option, None, Some}
 use mathlib.Core.Path.{◌≡◌, refl, sym, ap, ◌∙◌}
 use mathlib.Core.Bool.{Bool, true, false, ◌&&◌, true≢false}
 use mathlib.Core.List.{List, map}
-use mathlib.Core.Option.{none, some}
-use Prim.Native.Nat.{ℕ, ◌+◌, ◌*◌, ◌/◌, ◌%◌, ◌^◌, ◌≤◌, ◌<◌}
-use native.Mathlib.Nat.{zero-add}
+use Prim.Native.Nat.{ℕ, ◌<◌}
 use native.Mathlib.Omega.{arith}
 use borrow.Author.Tests.{ltb-true, eqb-true, eq-eqb, ne_eqb}
 use lib.Dec.{eqb, ltb}
-use lib.ListN.{take, drop, get_or, get_elem?}
 use Rattle.catalogue.specs.declared.rows.PrnRow.{PrnRow}
 use Rattle.catalogue.specs.declared.rows.SlotRow.{SlotRow}
-use Rattle.catalogue.specs.Rows.{prn, slot, prn_fits, slot_fits, slot_sized}
+use Rattle.catalogue.specs.Rows.{prn_fits, slot_fits, slot_sized}
 use Rattle.catalogue.specs.Tables.{prn_rows, slot_rows}
-use Rattle.catalogue.specs.Search.{first_where, every}
+use Rattle.catalogue.specs.Search.{first_where, every, rising}
 use Rattle.catalogue.specs.Sae.{prn_is, slot_is, sae_prn, sae_slot, packed, prn_row_key, slot_row_key}
-use Rattle.catalogue.specs.Inner.{key_is, prns_apart, slots_apart, prn_at, prns_in, PrnPart, slot_at, slots_in, SlotPart}
+use Rattle.catalogue.specs.Inner.{key_is}
 use Rattle.frame.proofs.bytes.Laws.{cases}
 use Rattle.catalogue.proofs.SaeTables.{table_rule}
 use Rattle.catalogue.proofs.rows.Laws.{slot_ranges, SlotSizes, slot_sizes}
-use Rattle.catalogue.proofs.search.Laws.{both, found_is, none_found, first_same, every_is, in_part, row_at, row_past, row_keys, by_key}
+use Rattle.catalogue.proofs.search.Laws.{both, found_is, none_found, first_same, every_is}
 
 -- What is found by a PRN has that PRN and its ranges.
-pub sae_prn_fits : (p : ℕ) (row : PrnRow) → sae_prn p ≡ some row → (row.prn ≡ p) × (prn_fits row ≡ true)
+pub sae_prn_fits : (p : ℕ) (row : PrnRow) → sae_prn p ≡ Some row → (row.prn ≡ p) × (prn_fits row ≡ true)
 unfolding sae_prn
 sae_prn_fits p row e =
     let t = found_is (prn_is p) prn_rows row e in
@@ -36,7 +34,7 @@ pub record SlotTold (f w n : ℕ) (row : SlotRow) : Type 0 where
   pub fits : slot_fits row ≡ true
   pub sizes : SlotSizes row
 
-pub sae_slot_fits : (f w n : ℕ) (row : SlotRow) → sae_slot f w n ≡ some row → SlotTold f w n row
+pub sae_slot_fits : (f w n : ℕ) (row : SlotRow) → sae_slot f w n ≡ Some row → SlotTold f w n row
 unfolding sae_slot
 sae_slot_fits f w n row e =
     let t = found_is (slot_is f w n) slot_rows row e in
@@ -78,16 +76,17 @@ packed_is a b c f w n hb hc hw hn =
     eqb_same : {x y : ℕ} → x ≡ y → eqb x y ≡ true
     eqb_same {x} {y} e = eq-eqb x y e
 
--- Where the other PRNs are too low or too high, a part of the table is searched in place of the whole.
-pub prn_same :
-    (i n lowest highest p : ℕ)
-    → every (λ r. ltb (prn_row_key r) lowest) (take i prn_rows) ≡ true
-    → every (λ r. ltb highest (prn_row_key r)) (drop n (drop i prn_rows)) ≡ true
-    → lowest ≤ p
-    → p ≤ highest
-    → first_where (prn_is p) (take n (drop i prn_rows)) ≡ sae_prn p
+-- What a search by PRN finds is the SAE row.
+pub prn_searched :
+    (p : ℕ) {rows : List PrnRow} {o : Option PrnRow}
+    → rows ≡ prn_rows
+    → o ≡ first_where (λ r. key_is p (prn_row_key r)) rows
+    → o ≡ sae_prn p
 unfolding sae_prn
-prn_same i n lowest highest p before behind low high = sym (in_part prn_row_key prn_rows i n lowest highest p before behind low high)
+prn_searched p same told = told ∙ ap (first_where (prn_is p)) same
+
+pub prn_rises : {rows : List PrnRow} → rows ≡ prn_rows → rising (map prn_row_key rows) ≡ true
+prn_rises same = rw same table_rule.prn_rising
 
 -- A SLOT is sought by its packed key.
 slot_packed : (f w n : ℕ) → w < 256 → n < 65536 → first_where (λ r. key_is (packed f w n) (slot_row_key r)) slot_rows ≡ sae_slot f w n
@@ -104,7 +103,7 @@ small_numbers : every (λ r. ltb r.number 256) slot_rows ≡ true
 unfolding slot_rows every
 small_numbers = refl
 
-pub slot_beyond : (f w n : ℕ) → 255 < n → none ≡ sae_slot f w n
+pub slot_beyond : (f w n : ℕ) → 255 < n → None ≡ sae_slot f w n
 unfolding sae_slot
 slot_beyond f w n h =
     sym
@@ -117,57 +116,16 @@ slot_beyond f w n h =
     and_false true = refl
     and_false false = refl
 
--- A part with a PRN's row, if there is one: the row stands at the place of the PRN.
-module _
-    (words : List ℕ) (p at : ℕ) (part : PrnPart p words)
-    (placed : get_elem? (take prns_apart words) at ≡ first_where (key_is p) (take prns_apart words))
-  where
-    prn_keys : map prn_row_key (prns_in words) ≡ take prns_apart words
-    prn_keys = row_keys (prn_at words) prn_row_key words (λ j. refl) 0 prns_apart (omega (arith, part.size))
+-- What a search by packed key finds is the SAE row.
+pub slot_searched :
+    (f w n : ℕ) {k : ℕ} {rows : List SlotRow} {o : Option SlotRow}
+    → w < 256
+    → n < 65536
+    → k ≡ packed f w n
+    → rows ≡ slot_rows
+    → o ≡ first_where (λ r. key_is k (slot_row_key r)) rows
+    → o ≡ sae_slot f w n
+slot_searched f w n hw hn key same told = told ∙ (λ i. first_where (λ r. key_is (key i) (slot_row_key r)) (same i)) ∙ slot_packed f w n hw hn
 
-    prn_placed : get_elem? (prns_in words) at ≡ sae_prn p
-    prn_placed = by_key prn_row_key (prns_in words) p at (rw prn_keys part.rises) (rw prn_keys placed) ∙ part.same
-
-    pub prn_there :
-        at < prns_apart
-        → let slot = get_or words (prns_apart + at) 0 in some (prn p (slot / 2 ^ 24) (slot / 2 ^ 16 % 2 ^ 8) (slot % 2 ^ 16)) ≡ sae_prn p
-    prn_there h =
-        let slot : ℕ = get_or words (prns_apart + at) 0 in
-        let found : sae_prn p ≡ some (prn_at words at) =
-        sym prn_placed ∙ row_at (prn_at words) 0 prns_apart at h ∙ ap (λ (i : ℕ). some (prn_at words i)) (zero-add at) in
-        let told = sae_prn_fits p (prn_at words at) found in
-        sym (found ∙ (λ i. some (prn (told.0 i) (slot / 2 ^ 24) (slot / 2 ^ 16 % 2 ^ 8) (slot % 2 ^ 16))))
-
-    pub prn_gone : prns_apart ≤ at → none ≡ sae_prn p
-    prn_gone h = sym (row_past (prn_at words) 0 prns_apart at h) ∙ prn_placed
-
--- The same for a SLOT.
-module _
-    (words : List ℕ) (f w n at : ℕ) (hw : w < 2 ^ 8) (hn : n < 2 ^ 16) (part : SlotPart (packed f w n) words)
-    (placed : get_elem? (take slots_apart words) at ≡ first_where (key_is (packed f w n)) (take slots_apart words))
-  where
-    slot_keys : map slot_row_key (slots_in words) ≡ take slots_apart words
-    slot_keys = row_keys (slot_at words) slot_row_key words (λ j. omega arith) 0 slots_apart (omega (arith, part.size))
-
-    slot_placed : get_elem? (slots_in words) at ≡ sae_slot f w n
-    slot_placed =
-        by_key slot_row_key (slots_in words) (packed f w n) at (rw slot_keys part.rises) (rw slot_keys placed)
-        ∙ part.same
-        ∙ slot_packed f w n hw hn
-
-    -- The row with what stands in its columns.
-    abbrev pub row_with : ℕ → ℕ → ℕ → SlotRow
-    row_with a b c =
-        let scale = get_or words (slots_apart + at) 0 in
-        slot a b c (scale / 2 ^ 16) (scale % 2 ^ 16)
-        (get_or words (2 * slots_apart + at) 0) (get_or words (3 * slots_apart + at) 0) (get_or words (4 * slots_apart + at) 0)
-
-    pub slot_there : at < slots_apart → some (row_with f w n) ≡ sae_slot f w n
-    slot_there h =
-        let found : sae_slot f w n ≡ some (slot_at words at) =
-        sym slot_placed ∙ row_at (slot_at words) 0 slots_apart at h ∙ ap (λ (i : ℕ). some (slot_at words i)) (zero-add at) in
-        let told = sae_slot_fits f w n (slot_at words at) found in
-        sym (found ∙ (λ i. some (row_with (told.form i) (told.width i) (told.number i))))
-
-    pub slot_gone : slots_apart ≤ at → none ≡ sae_slot f w n
-    slot_gone h = sym (row_past (slot_at words) 0 slots_apart at h) ∙ slot_placed
+pub slot_rises : {rows : List SlotRow} → rows ≡ slot_rows → rising (map slot_row_key rows) ≡ true
+slot_rises same = rw same table_rule.slot_rising

@@ -3,28 +3,32 @@ use mathlib.Core.Path.{◌≡◌, refl, sym, ap, ◌∙◌}
 use mathlib.Core.Logic.{⊎_elim}
 use mathlib.Core.Bool.{Bool, true, false, cond, ◌&&◌, true≢false}
 use mathlib.Core.List.Memᴰ
-use mathlib.Core.List.{List, [], ◌∷◌, ◌++◌, map, Memᴰ}
-use mathlib.Core.Option.{Option, none, some, or_else}
-use Prim.Native.Nat.{ℕ, zero, suc, ◌+◌, ◌≤◌, ◌<◌}
-use native.Mathlib.Nat.{le_of_suc-le-suc, not-suc-le-zero, add-zero, add-suc, suc-add}
+use mathlib.Core.List.{List, [], ◌∷◌, map, Memᴰ}
+use Prim.Native.Nat.{ℕ, zero, suc, ◌≤◌, ◌<◌}
+use native.Mathlib.Nat.{le_of_suc-le-suc, not-suc-le-zero}
 use native.Mathlib.Omega.{arith}
 use borrow.Author.Tests.{ltb-true, ltb-false, eq-eqb, ne_eqb, eqb-true}
 use lib.Dec.{eqb, ltb}
-use lib.ListN.{length, take, drop, get_or, get_elem?, take-append-drop}
-use lib.Seq.{drop-cons}
+use lib.ListN.{length, get_or}
+use Rattle.std.proofs.Common.{Option, None, Some, option_map, is_some, slice_get, find}
+use Rattle.std.proofs.lemmas.List.{length-map, get_or-map}
+use Rattle.std.proofs.lemmas.Option.{none-some, slice_get-get_or, slice_get_past}
 use Rattle.frame.proofs.bytes.Laws.{cases}
-use Rattle.catalogue.specs.Search.{first_where, is_found, every, rising}
-use Rattle.catalogue.specs.Inner.{key_is, rows_from}
+use Rattle.catalogue.specs.Search.{first_where, every, rising}
+use Rattle.catalogue.specs.Inner.{key_is}
 
 pub both : (a b : Bool) → (a && b) ≡ true → (a ≡ true) × (b ≡ true)
 both true b e = (refl, e)
 both false b e = absurd (true≢false (sym e))
 
-none_some : {A : Type 0} {a : A} → none ≡ some a → ⊥
-none_some e = let z : ◌≡◌ {A = ℕ} 0 1 = cc in omega arith
+-- It is std's search.
+pub first_is : {A : Type 0} (p : A → Bool) (l : List A) → find p l ≡ first_where p l
+unfolding first_where
+first_is p [] = refl
+first_is p (a ∷ l) = ap (cond (p a) (Some a)) (first_is p l)
 
 -- An element that passes is found, whatever follows; one that fails is passed over.
-pub first_taken : {A : Type 0} (p : A → Bool) (a : A) (l : List A) → p a ≡ true → first_where p (a ∷ l) ≡ some a
+pub first_taken : {A : Type 0} (p : A → Bool) (a : A) (l : List A) → p a ≡ true → first_where p (a ∷ l) ≡ Some a
 unfolding first_where
 first_taken p a l e = rw e
 
@@ -33,35 +37,36 @@ unfolding first_where
 first_passed p a l e = rw e
 
 -- What is found passes the test and stands in the list.
-pub found_is : {A : Type 0} (p : A → Bool) (l : List A) (a : A) → first_where p l ≡ some a → (p a ≡ true) × Memᴰ a l
+pub found_is : {A : Type 0} (p : A → Bool) (l : List A) (a : A) → first_where p l ≡ Some a → (p a ≡ true) × Memᴰ a l
 unfolding first_where
-found_is p [] a e = absurd (none_some e)
+found_is p [] a e = absurd (none-some _ e)
 found_is p (b ∷ l) a e =
     cases (p b)
-    (λ t. let same : some b ≡ some a = sym (first_taken p b l t) ∙ e in let h : b ≡ a = cc in (ap p (sym h) ∙ t, Memᴰ.head (sym h)))
+    (λ t. let same : Some b ≡ Some a = sym (first_taken p b l t) ∙ e in let h : b ≡ a = cc in (ap p (sym h) ∙ t, Memᴰ.head (sym h)))
     (λ f. let r = found_is p l a (sym (first_passed p b l f) ∙ e) in (r.0, Memᴰ.tail r.1))
 
 -- Nothing is found: every member fails the test.
-pub none_is : {A : Type 0} (p : A → Bool) (l : List A) → first_where p l ≡ none → (a : A) → Memᴰ a l → p a ≡ false
+pub none_is : {A : Type 0} (p : A → Bool) (l : List A) → first_where p l ≡ None → (a : A) → Memᴰ a l → p a ≡ false
 none_is p [] e a m = absurd (Memᴰ.not-nil m)
 none_is p (b ∷ l) e a m =
-    cases (p b) (λ t. absurd (none_some (sym e ∙ first_taken p b l t)))
+    cases (p b) (λ t. absurd (none-some _ (sym e ∙ first_taken p b l t)))
     (λ f.
     ⊎_elim (λ (h : a ≡ b). ap p h ∙ f) (λ (n : Memᴰ a l). none_is p l (sym (first_passed p b l f) ∙ e) a n)
     (Memᴰ.cases_cons m))
 
 -- Where every member fails the test, nothing is found.
-pub none_found : {A : Type 0} (p : A → Bool) (l : List A) → ((a : A) → Memᴰ a l → p a ≡ false) → first_where p l ≡ none
+pub none_found : {A : Type 0} (p : A → Bool) (l : List A) → ((a : A) → Memᴰ a l → p a ≡ false) → first_where p l ≡ None
 unfolding first_where
 none_found p [] h = refl
 none_found p (b ∷ l) h =
     first_passed p b l (h b (Memᴰ.head refl)) ∙ none_found p l (λ a m. h a (Memᴰ.tail m))
 
--- The search through one list and then another.
-pub first_append : {A : Type 0} (p : A → Bool) (l k : List A) → first_where p (l ++ k) ≡ or_else (first_where p l) (first_where p k)
-unfolding first_where or_else
-first_append p [] k = refl
-first_append p (a ∷ l) k = cases (p a) (λ e. rw e) (λ e. rw e (first_append p l k))
+-- The search among what is made of each element.
+pub first_map :
+    {A B : Type 0} (f : A → B) (p : B → Bool) (l : List A) → first_where p (map f l) ≡ option_map f (first_where (λ a. p (f a)) l)
+unfolding first_where
+first_map f p [] = refl
+first_map f p (a ∷ l) = cases (p (f a)) (λ t. rw t) (λ e. rw e (first_map f p l))
 
 -- Tests that agree on every member find the same.
 pub first_same : {A : Type 0} (p q : A → Bool) (l : List A) → ((a : A) → Memᴰ a l → p a ≡ q a) → first_where p l ≡ first_where q l
@@ -69,7 +74,7 @@ unfolding first_where
 first_same p q [] h = refl
 first_same p q (a ∷ l) h =
     let e : first_where p l ≡ first_where q l = first_same p q l (λ b m. h b (Memᴰ.tail m)) in
-    λ i. cond (h a (Memᴰ.head refl) i) (some a) (e i)
+    λ i. cond (h a (Memᴰ.head refl) i) (Some a) (e i)
 
 -- What holds for every element holds for a member.
 pub every_is : {A : Type 0} (p : A → Bool) (l : List A) → every p l ≡ true → (a : A) → Memᴰ a l → p a ≡ true
@@ -79,93 +84,15 @@ every_is p (b ∷ l) e a m =
     let t = both (p b) (every p l) e in
     ⊎_elim (λ (h : a ≡ b). ap p h ∙ t.0) (λ (n : Memᴰ a l). every_is p l t.1 a n) (Memᴰ.cases_cons m)
 
--- Rows cut in three: where every key before the middle is too low and every key behind it too high, the middle is searched.
-or_none : {A : Type 0} (o : Option A) → or_else o none ≡ o
-unfolding or_else
-or_none none = refl
-or_none (some a) = refl
-
-pub in_part :
-    {A : Type 0} (key : A → ℕ) (rows : List A) (i n lowest highest k : ℕ)
-    → every (λ r. ltb (key r) lowest) (take i rows) ≡ true
-    → every (λ r. ltb highest (key r)) (drop n (drop i rows)) ≡ true
-    → lowest ≤ k
-    → k ≤ highest
-    → first_where (λ r. key_is k (key r)) rows ≡ first_where (λ r. key_is k (key r)) (take n (drop i rows))
-unfolding or_else
-in_part {A} key rows i n lowest highest k before behind low high =
-    ap search (sym (take-append-drop i rows) ∙ ap (λ (l : List A). take i rows ++ l) (sym (take-append-drop n (drop i rows))))
-    ∙ first_append test (take i rows) (take n (drop i rows) ++ drop n (drop i rows))
-    ∙ ap (λ (o : Option A). or_else o (search (take n (drop i rows) ++ drop n (drop i rows)))) none_before
-    ∙ first_append test (take n (drop i rows)) (drop n (drop i rows))
-    ∙ ap (or_else (search (take n (drop i rows)))) none_behind
-    ∙ or_none (search (take n (drop i rows)))
-  where
-    test : A → Bool
-    test r = key_is k (key r)
-
-    search : List A → Option A
-    search = first_where test
-
-    none_before : search (take i rows) ≡ none
-    none_before =
-        none_found test (take i rows)
-        (λ r m.
-        let low-key : key r < lowest = ltb-true (key r) lowest (every_is (λ q. ltb (key q) lowest) (take i rows) before r m) in
-        ne_eqb (key r) k (λ e. omega arith))
-
-    none_behind : search (drop n (drop i rows)) ≡ none
-    none_behind =
-        none_found test (drop n (drop i rows))
-        (λ r m.
-        let high-key : highest < key r = ltb-true highest (key r) (every_is (λ q. ltb highest (key q)) (drop n (drop i rows)) behind r m) in
-        ne_eqb (key r) k (λ e. omega arith))
-
--- The element at a place, and none past the end.
-pub elem_at : {A : Type 0} (l : List A) (i : ℕ) (d : A) → i < length l → get_elem? l i ≡ some (get_or l i d)
-elem_at [] i d h = absurd (not-suc-le-zero h)
-elem_at (a ∷ l) zero d h = refl
-elem_at (a ∷ l) (suc i) d h = elem_at l i d (le_of_suc-le-suc h)
-
-pub elem_past : {A : Type 0} (l : List A) (i : ℕ) → length l ≤ i → get_elem? l i ≡ none
-elem_past [] i h = refl
-elem_past (a ∷ l) zero h = absurd (not-suc-le-zero h)
-elem_past (a ∷ l) (suc i) h = elem_past l i (le_of_suc-le-suc h)
-
--- Rows counted from a number on: the row at a place, none past the last, and their keys.
-module _ {A : Type 0} (row : ℕ → A) where
-  pub row_at : (i n j : ℕ) → j < n → get_elem? (rows_from row i n) j ≡ some (row (i + j))
-  unfolding rows_from
-  row_at i zero j h = absurd (not-suc-le-zero h)
-  row_at i (suc n) zero h = ap (λ (k : ℕ). some (row k)) (sym (add-zero i))
-  row_at i (suc n) (suc j) h = row_at (suc i) n j (le_of_suc-le-suc h) ∙ ap (λ (k : ℕ). some (row k)) (suc-add i j ∙ sym (add-suc i j))
-
-  pub row_past : (i n j : ℕ) → n ≤ j → get_elem? (rows_from row i n) j ≡ none
-  unfolding rows_from
-  row_past i zero j h = refl
-  row_past i (suc n) zero h = absurd (not-suc-le-zero h)
-  row_past i (suc n) (suc j) h = row_past (suc i) n j (le_of_suc-le-suc h)
-
-  pub row_keys :
-      (key : A → ℕ) (keys : List ℕ)
-      → ((j : ℕ) → key (row j) ≡ get_or keys j 0)
-      → (i n : ℕ)
-      → i + n ≤ length keys
-      → map key (rows_from row i n) ≡ take n (drop i keys)
-  unfolding rows_from
-  row_keys key keys same i zero h = refl
-  row_keys key keys same i (suc n) h =
-      (λ k. same i k ∷ row_keys key keys same (suc i) n (omega arith) k) ∙ sym (ap (take (suc n)) (drop-cons keys i 0 (omega arith)))
-
 -- Among rising keys each is below all that follow.
 rising_rest : (a : ℕ) (l : List ℕ) → rising (a ∷ l) ≡ true → rising l ≡ true
 unfolding rising
 rising_rest a [] e = refl
 rising_rest a (b ∷ l) e = (both (ltb a b) (rising (b ∷ l)) e).1
 
-rising_above : (a : ℕ) (l : List ℕ) → rising (a ∷ l) ≡ true → (i x : ℕ) → get_elem? l i ≡ some x → a < x
+rising_above : (a : ℕ) (l : List ℕ) → rising (a ∷ l) ≡ true → (i x : ℕ) → slice_get l i ≡ Some x → a < x
 unfolding rising
-rising_above a [] e i x h = absurd (none_some h)
+rising_above a [] e i x h = absurd (none-some _ h)
 rising_above a (b ∷ l) e zero x h =
     let s : b ≡ x = cc in omega (arith, ltb-true a b (both (ltb a b) (rising (b ∷ l)) e).0)
 rising_above a (b ∷ l) e (suc i) x h =
@@ -174,7 +101,7 @@ rising_above a (b ∷ l) e (suc i) x h =
 rising_at : (l : List ℕ) → rising l ≡ true → (i j : ℕ) → i < j → j < length l → get_or l i 0 < get_or l j 0
 rising_at [] e i j h k = absurd (not-suc-le-zero k)
 rising_at (a ∷ l) e i zero h k = absurd (not-suc-le-zero h)
-rising_at (a ∷ l) e zero (suc j) h k = rising_above a l e j (get_or l j 0) (elem_at l j 0 (le_of_suc-le-suc k))
+rising_at (a ∷ l) e zero (suc j) h k = rising_above a l e j (get_or l j 0) (slice_get-get_or l j 0 (le_of_suc-le-suc k))
 rising_at (a ∷ l) e (suc i) (suc j) h k =
     rising_at l (rising_rest a l e) i j (le_of_suc-le-suc h) (le_of_suc-le-suc k)
 
@@ -183,14 +110,14 @@ rising_at (a ∷ l) e (suc i) (suc j) h k =
 pub by_key :
     {A : Type 0} (key : A → ℕ) (rows : List A) (k place : ℕ)
     → rising (map key rows) ≡ true
-    → get_elem? (map key rows) place ≡ first_where (key_is k) (map key rows)
-    → get_elem? rows place ≡ first_where (λ r. key_is k (key r)) rows
+    → slice_get (map key rows) place ≡ first_where (key_is k) (map key rows)
+    → slice_get rows place ≡ first_where (λ r. key_is k (key r)) rows
 unfolding first_where
 by_key key [] k place e h = refl
 by_key key (a ∷ l) k zero e h =
     cases (eqb (key a) k) (λ t. rw t)
     (λ f.
-    let g : some (key a) ≡ first_where (key_is k) (map key l) = h ∙ first_passed (key_is k) (key a) (map key l) f in
+    let g : Some (key a) ≡ first_where (key_is k) (map key l) = h ∙ first_passed (key_is k) (key a) (map key l) f in
     absurd (true≢false (sym (found_is (key_is k) (map key l) (key a) (sym g)).0 ∙ f)))
 by_key key (a ∷ l) k (suc place) e h =
     cases (eqb (key a) k)
@@ -202,82 +129,76 @@ by_key key (a ∷ l) k (suc place) e h =
     ∙ sym (first_passed (λ r. key_is k (key r)) a l f))
 
 -- A key at a place is found; where no place has it, nothing is.
-first_key : (keys : List ℕ) (k i : ℕ) → i < length keys → get_or keys i 0 ≡ k → first_where (key_is k) keys ≡ some k
+first_key : (keys : List ℕ) (k i : ℕ) → i < length keys → get_or keys i 0 ≡ k → first_where (key_is k) keys ≡ Some k
 first_key [] k i h e = absurd (not-suc-le-zero h)
-first_key (a ∷ l) k zero h e = first_taken (key_is k) a l (eq-eqb a k e) ∙ ap some e
+first_key (a ∷ l) k zero h e = first_taken (key_is k) a l (eq-eqb a k e) ∙ ap Some e
 first_key (a ∷ l) k (suc i) h e =
-    cases (eqb a k) (λ t. first_taken (key_is k) a l t ∙ ap some (eqb-true a k t))
+    cases (eqb a k) (λ t. first_taken (key_is k) a l t ∙ ap Some (eqb-true a k t))
     (λ f. first_passed (key_is k) a l f ∙ first_key l k i (le_of_suc-le-suc h) e)
 
-no_key : (keys : List ℕ) (k : ℕ) → ((i : ℕ) → i < length keys → get_or keys i 0 ≡ k → ⊥) → first_where (key_is k) keys ≡ none
+no_key : (keys : List ℕ) (k : ℕ) → ((i : ℕ) → i < length keys → get_or keys i 0 ≡ k → ⊥) → first_where (key_is k) keys ≡ None
 unfolding first_where
 no_key [] k h = refl
 no_key (a ∷ l) k h =
     first_passed (key_is k) a l (ne_eqb a k (h 0 (omega arith))) ∙ no_key l k (λ i b. h (suc i) (omega arith))
 
--- Binary search: every key before `low` is below the one that is sought, and none from `high` on is.
-pub record Bracket (keys : List ℕ) (k low high : ℕ) : Type 0 where
-  pub ordered : low ≤ high
-  pub within : high ≤ length keys
-  pub below : (i : ℕ) → i < low → get_or keys i 0 < k
-  pub above : (i : ℕ) → high ≤ i → i < length keys → k ≤ get_or keys i 0
+place_found : (keys : List ℕ) (k i : ℕ) → i < length keys → get_or keys i 0 ≡ k → slice_get keys i ≡ first_where (key_is k) keys
+place_found keys k i h e = slice_get-get_or keys i 0 h ∙ ap Some e ∙ sym (first_key keys k i h e)
 
-pub bracket_all : (keys : List ℕ) (k : ℕ) → Bracket keys k 0 (length keys)
-bracket_all keys k =
-    record { ordered = omega arith; within = omega arith; below = λ i h. absurd (not-suc-le-zero h); above = λ i h b. absurd (omega arith) }
-
-module _ {keys : List ℕ} {k low high : ℕ} (rises : rising keys ≡ true) (b : Bracket keys k low high) where
-  -- No key falls below one before it.
-  from : (i j : ℕ) → i ≤ j → j < length keys → get_or keys i 0 ≤ get_or keys j 0
-  from i j h l =
-      cases (ltb i j) (λ t. omega (arith, rising_at keys rises i j (ltb-true i j t) l))
-      (λ f. let e : i ≡ j = omega (arith, ltb-false i j f) in rw e (omega arith))
-
-  pub bracket_up : (m : ℕ) → low ≤ m → m < high → get_or keys m 0 < k → Bracket keys k (m + 1) high
-  bracket_up m g h l =
-      record {
-        ordered = omega arith;
-        within = b.within;
-        below = λ i j. omega (arith, from i m (omega arith) (omega (arith, b.within)));
-        above = b.above;
-      }
-
-  pub bracket_down : (m : ℕ) → low ≤ m → m < high → k ≤ get_or keys m 0 → Bracket keys k low m
-  bracket_down m g h l =
-      record {
-        ordered = g;
-        within = omega (arith, b.within);
-        below = b.below;
-        above = λ i j n. omega (arith, from m i j n);
-      }
-
-  -- Where `low` and `high` meet, the key stands there or nowhere.
-  pub meets : high ≤ low → (low < length keys → get_or keys low 0 ≡ k → ⊥) → (i : ℕ) → i < length keys → get_or keys i 0 ≡ k → ⊥
-  meets h n i l e =
-      cases (ltb i low) (λ t. omega (arith, b.below i (ltb-true i low t)))
-      (λ f.
-      cases (ltb low i)
-      (λ t. omega (arith, rising_at keys rises low i (ltb-true low i t) l, b.above low (omega arith) (omega (arith, ltb-false i low f))))
-      (λ g.
-      let s : i ≡ low = omega (arith, ltb-false i low f, ltb-false low i g) in n (omega arith) (rw s at e)))
-
-pub place_found : (keys : List ℕ) (k i : ℕ) → i < length keys → get_or keys i 0 ≡ k → get_elem? keys i ≡ first_where (key_is k) keys
-place_found keys k i h e = elem_at keys i 0 h ∙ ap some e ∙ sym (first_key keys k i h e)
-
-pub place_missing :
+place_missing :
     (keys : List ℕ) (k i : ℕ)
     → length keys ≤ i
     → ((i : ℕ) → i < length keys → get_or keys i 0 ≡ k → ⊥)
-    → get_elem? keys i ≡ first_where (key_is k) keys
-place_missing keys k i h n = elem_past keys i h ∙ sym (no_key keys k n)
+    → slice_get keys i ≡ first_where (key_is k) keys
+place_missing keys k i h n = slice_get_past keys i h ∙ sym (no_key keys k n)
+
+-- Among rows whose keys rise the one with a key is what the search from the start finds.
+module _ {A : Type 0} (key : A → ℕ) (rows : List A) (k : ℕ) (rises : rising (map key rows) ≡ true) where
+  size : length (map key rows) ≡ length rows
+  size = length-map rows key
+
+  key_at : (i : ℕ) (d : A) → i < length rows → get_or (map key rows) i 0 ≡ key (get_or rows i d)
+  key_at i d h = get_or-map key rows i d 0 h
+
+  pub up : (i j : ℕ) (d e : A) → i ≤ j → j < length rows → key (get_or rows i d) ≤ key (get_or rows j e)
+  up i j d e h l =
+      let here = key_at i d (omega arith) in
+      let there = key_at j e l in
+      cases (ltb i j)
+      (λ t. omega (arith, rising_at (map key rows) rises i j (ltb-true i j t) (omega (arith, size)), here, there))
+      (λ f.
+      let same : i ≡ j = omega (arith, ltb-false i j f) in
+      omega (arith, here, there, ap (λ (n : ℕ). get_or (map key rows) n 0) same))
+
+  abbrev sought : Option A
+  sought = first_where (λ r. key_is k (key r)) rows
+
+  pub there : (i : ℕ) (d : A) → i < length rows → key (get_or rows i d) ≡ k → Some (get_or rows i d) ≡ sought
+  there i d h e =
+      sym (slice_get-get_or rows i d h)
+      ∙ by_key key rows k i rises (place_found (map key rows) k i (omega (arith, size)) (key_at i d h ∙ e))
+
+  nowhere : A → ((i : ℕ) (d : A) → i < length rows → key (get_or rows i d) ≡ k → ⊥) → None ≡ sought
+  nowhere d n =
+      sym (slice_get_past rows (length rows) (omega arith))
+      ∙ by_key key rows k (length rows) rises
+      (place_missing (map key rows) k (length rows) (omega (arith, size))
+      (λ i h e. n i d (omega (arith, size)) (sym (key_at i d (omega (arith, size))) ∙ e)))
+
+pub absent :
+    {A : Type 0} (key : A → ℕ) (rows : List A) (k : ℕ)
+    → rising (map key rows) ≡ true
+    → ((i : ℕ) (d : A) → i < length rows → key (get_or rows i d) ≡ k → ⊥)
+    → None ≡ first_where (λ r. key_is k (key r)) rows
+unfolding first_where
+absent key [] k rises n = refl
+absent key (x ∷ rows) k rises n = nowhere key (x ∷ rows) k rises x n
 
 -- By the two answers: something was found, or nothing.
-pub is_found_lem : {A : Type 0} (o : Option A) → is_found o ≡ true → (a : A) × (o ≡ some a)
-unfolding is_found
-is_found_lem none e = absurd (true≢false (sym e))
-is_found_lem (some a) e = (a, refl)
+pub is_found_lem : {A : Type 0} (o : Option A) → is_some o ≡ true → (a : A) × (o ≡ Some a)
+is_found_lem None e = absurd (true≢false (sym e))
+is_found_lem (Some a) e = (a, refl)
 
-pub not_found : {A : Type 0} (o : Option A) → is_found o ≡ false → o ≡ none
-unfolding is_found
-not_found none e = refl
-not_found (some a) e = absurd (true≢false e)
+pub not_found : {A : Type 0} (o : Option A) → is_some o ≡ false → o ≡ None
+not_found None e = refl
+not_found (Some a) e = absurd (true≢false e)

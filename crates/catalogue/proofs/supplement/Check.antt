@@ -1,4 +1,5 @@
 -- Laws of the supplement's test.
+use Rattle.std.proofs.Common.{is_some}
 use mathlib.Core.Path.{◌≡◌, sym, ap, ◌∙◌}
 use mathlib.Core.Bool.{true, false, not}
 use mathlib.Core.List.{List, [], ◌∷◌, ◌++◌}
@@ -11,7 +12,6 @@ use lib.ListN.{length, take, drop, get_or, length-take, length-drop, drop_of_len
 use lib.Seq.{get_or-take, get_or-drop}
 use Rattle.frame.proofs.bytes.Laws.{cases}
 use Rattle.frame.proofs.refusal.Laws.{kept, last_kept, none_broken}
-use Rattle.catalogue.specs.Search.{is_found}
 use Rattle.catalogue.specs.Refusal.{supplement_too_long}
 use Rattle.catalogue.specs.Kind.{record_size, known}
 use Rattle.catalogue.specs.Record.{record_kind, key_of, record_with, in_range, in_sae, fault_rules, fault}
@@ -25,7 +25,7 @@ pub record Free (seen : List (List ℕ)) (r : List ℕ) : Type 0 where
   pub known : known (record_kind r) ≡ true
   pub whole : record_size (record_kind r) ≤ length r
   pub range : in_range r ≡ true
-  pub first : is_found (record_with (key_of r) seen) ≡ false
+  pub first : is_some (record_with (key_of r) seen) ≡ false
   pub new : in_sae r ≡ false
 
 pub free : (seen : List (List ℕ)) (r : List ℕ) → fault seen r ≡ 0 → Free seen r

@@ -1,8 +1,8 @@
 -- Laws of records whose keys are distinct.
+use Rattle.std.proofs.Common.{Option, None, Some}
 use mathlib.Core.Path.{◌≡◌, refl, sym, ap, ◌∙◌}
 use mathlib.Core.Logic.{⊎_elim}
 use mathlib.Core.Bool.{true, true≢false}
-use mathlib.Core.Option.{Option, none, some}
 use mathlib.Core.List.Memᴰ
 use mathlib.Core.List.{List, [], ◌∷◌, Memᴰ}
 use Prim.Native.Nat.{ℕ}
@@ -22,12 +22,12 @@ distinct_unique (x ∷ rs) d r q m n e =
     (Memᴰ.cases_cons m)
 
 -- and so a record of the list is the one that its key finds.
-pub found_again : (rs : List (List ℕ)) → Distinct rs → (key r : List ℕ) → FullKey key → Memᴰ r rs → has_key key r ≡ true → record_with key rs ≡ some r
+pub found_again : (rs : List (List ℕ)) → Distinct rs → (key r : List ℕ) → FullKey key → Memᴰ r rs → has_key key r ≡ true → record_with key rs ≡ Some r
 unfolding record_with
 found_again rs d key r full m h = go (record_with key rs) refl
   where
-    go : (o : Option (List ℕ)) → record_with key rs ≡ o → record_with key rs ≡ some r
-    go none f = absurd (true≢false (sym h ∙ none_is (has_key key) rs f r m))
-    go (some q) f =
+    go : (o : Option (List ℕ)) → record_with key rs ≡ o → record_with key rs ≡ Some r
+    go None f = absurd (true≢false (sym h ∙ none_is (has_key key) rs f r m))
+    go (Some q) f =
         let is = found_record key rs q f in
-        f ∙ ap some (distinct_unique rs d q r is.1 m (key_is_lem key q full is.0 ∙ sym (key_is_lem key r full h)))
+        f ∙ ap Some (distinct_unique rs d q r is.1 m (key_is_lem key q full is.0 ∙ sym (key_is_lem key r full h)))

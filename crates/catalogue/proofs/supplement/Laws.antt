@@ -1,10 +1,11 @@
 -- Laws of a supplement as its records.
+use Rattle.std.proofs.Common.{None, Some}
 use mathlib.Core.Path.{◌≡◌, refl, sym, ap, ◌∙◌, subst}
 use mathlib.Core.Logic.{⊎_elim}
 use mathlib.Core.Bool.{true, false}
 use mathlib.Core.List.Memᴰ
 use mathlib.Core.List.{List, [], ◌∷◌, ◌++◌, Memᴰ}
-use Prim.Native.Nat.{ℕ, zero, suc, ◌+◌, ◌-◌, ◌≤◌, ◌<◌}
+use Prim.Native.Nat.{ℕ, zero, suc, min, ◌+◌, ◌-◌, ◌≤◌, ◌<◌}
 use native.Mathlib.Nat.{add-zero}
 use native.Mathlib.Omega.{arith}
 use borrow.Author.Tests.{leb-true, leb-false}
@@ -13,7 +14,6 @@ use lib.ListN.{length, take, drop, get_or, length-drop, length-take, drop_of_len
 use lib.Seq.{take-append-le, drop-append-le, take-length, drop-length, length-take-le, take_all, drop-drop, take-add, get_or-drop, get_or-take}
 use Rattle.frame.specs.Bytes.{Bytes}
 use Rattle.frame.proofs.bytes.Laws.{cases, bytes_take}
-use mathlib.Core.Option.{none, some}
 use Rattle.catalogue.specs.Search.{first_where}
 use Rattle.catalogue.specs.Kind.{record_size}
 use Rattle.catalogue.specs.Record.{record_kind, has_key, record_with}
@@ -62,6 +62,22 @@ taken n s =
       whole ∙ sym (ap (λ (t : List ℕ). take (length t) s) whole ∙ take-length s),
       drop_of_length-le s {i = n} (omega arith) ∙ sym (ap (λ (t : List ℕ). drop (length t) s) whole ∙ drop-length s),
     ))
+
+-- The first record as it is cut off, no longer than what there is.
+pub records_cut :
+    (s : List ℕ) (n : ℕ)
+    → 0 < length s
+    → n ≡ min (record_size (get_or s 0 0)) (length s)
+    → records_of s ≡ take n s ∷ records_of (drop n s)
+records_cut s n h e =
+    let size : length (take (record_size (record_kind s)) s) ≡ n = length-take (record_size (record_kind s)) s ∙ sym e in
+    let parts = taken (record_size (record_kind s)) s in
+    records_cons s h
+    ∙ (λ i. (parts.0 ∙ ap (λ (m : ℕ). take m s) size) i ∷ records_of ((parts.1 ∙ ap (λ (m : ℕ). drop m s) size) i))
+
+pub records_none : (s : List ℕ) → length s ≡ 0 → records_of s ≡ []
+records_none [] e = records_nil
+records_none (k ∷ s) e = absurd (omega arith)
 
 -- The records from a place on: the one that starts there, and those behind it.
 pub records_from :
@@ -158,7 +174,7 @@ onward s at h p = omega (arith, p, from_length s at h)
 
 -- The search from a place on: found there, or sought behind it, or at the end.
 module _ (key s : List ℕ) (at : ℕ) where
-  pub search_hit : at < length s → has_key key (record_from s at) ≡ true → record_with key (records_of (drop at s)) ≡ some (record_from s at)
+  pub search_hit : at < length s → has_key key (record_from s at) ≡ true → record_with key (records_of (drop at s)) ≡ Some (record_from s at)
   unfolding record_with first_where
   search_hit h e = ap (record_with key) (records_from s at h) ∙ rw e
 
@@ -169,7 +185,7 @@ module _ (key s : List ℕ) (at : ℕ) where
   unfolding record_with first_where
   search_miss h e = ap (record_with key) (records_from s at h) ∙ rw e
 
-  pub search_end : length s ≤ at → record_with key (records_of (drop at s)) ≡ none
+  pub search_end : length s ≤ at → record_with key (records_of (drop at s)) ≡ None
   unfolding record_with first_where
   search_end h = ap (λ (t : List ℕ). record_with key (records_of t)) (drop_of_length-le s {i = at} h) ∙ ap (record_with key) records_nil
 

@@ -1,8 +1,15 @@
--- The row is at the place of the key in its part.
+-- The row that the search finds among the SAE rows.
 use native.Mathlib.Omega.{arith}
-use Rattle.catalogue.proofs.sae.Laws.{slot_there}
+use Rattle.catalogue.proofs.sae.Laws.{slot_beyond, slot_searched, slot_rises}
 use Rattle.catalogue.proofs.sae.slot_row.Goals as goal
 
-pub returns-then-at-lt-SLOTS_A_PART : goal.returns-then-at-lt-SLOTS_A_PART
-returns-then-at-lt-SLOTS_A_PART c =
-    slot_there _ _ _ _ _ (omega arith) (omega arith) c.slot_part-rows.ensures c.place_of-at.ensures c.if-at-lt-SLOTS_A_PART.true
+pub returns-then-number-gt-HIGHEST_NUMBER : goal.returns-then-number-gt-HIGHEST_NUMBER
+returns-then-number-gt-HIGHEST_NUMBER c = slot_beyond _ _ _ c.if-number-gt-HIGHEST_NUMBER.true
+
+pub row_with-requires : goal.row_with-requires
+row_with-requires c = slot_rises c.slot_rows.ensures
+
+pub returns : goal.returns
+returns c =
+    let a = c.args in
+    slot_searched a.form a.width a.number (omega arith) (omega arith) c.packed.ensures c.slot_rows.ensures c.row_with.ensures

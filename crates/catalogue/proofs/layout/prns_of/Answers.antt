@@ -3,8 +3,8 @@ use mathlib.Core.Path.{◌≡◌, ap, ◌∙◌}
 use Prim.Native.Nat.{ℕ}
 use native.Mathlib.Omega.{arith}
 use Rattle.catalogue.specs.Lookup.{prns_used}
-use Rattle.catalogue.proofs.lookup.Prns.{all_read}
-use Rattle.catalogue.proofs.lookup.prns_of.Goals as goal
+use Rattle.catalogue.proofs.layout.Prns.{all_read}
+use Rattle.catalogue.proofs.layout.prns_of.Goals as goal
 
 pub returns : goal.returns
 returns c =
