@@ -3,10 +3,11 @@ use mathlib.Core.Path.{◌≡◌, refl, sym, ap, ◌∙◌, subst}
 use mathlib.Core.Logic.{◌↔◌, ◌⊎◌, inl, inr, ⊎_elim}
 use mathlib.Core.Bool.{true, false, true≢false}
 use mathlib.Core.List.{List, [], ◌∷◌, map}
-use mathlib.Core.Option.{Option, none, some}
+use Rattle.std.proofs.Common.{Option, None, Some, slice_get}
+use Rattle.std.proofs.lemmas.Option.{none-some}
 use Prim.Native.Nat.{ℕ, zero, suc}
 use native.Mathlib.Omega.{arith}
-use lib.ListN.{length, take, get_elem?}
+use lib.ListN.{length, take}
 use Rattle.frame.specs.Response.{kind_number}
 use Rattle.frame.specs.Frame.{Parts}
 use Rattle.catalogue.specs.Record.{LayoutRow, FullKey}
@@ -25,87 +26,84 @@ use Rattle.report.specs.Demand.{Name, item, remainder, response, item_in, remain
 use Rattle.report.proofs.demand.Kept.{AllWith, Kept, GroupKept, groups_kept, groups_gone}
 use Rattle.report.proofs.demand.Covered.{Covered, covered_append, covered_same, groups_covered, verdict_clear_lem, verdict_flagged_lem}
 
-none_some : {A : Type 0} {a : A} → none ≡ some a → ⊥
-none_some e = let z : ◌≡◌ {A = ℕ} 0 1 = cc in omega arith
-
-some_is : {A : Type 0} {a b : A} → some a ≡ some b → a ≡ b
+some_is : {A : Type 0} {a b : A} → Some a ≡ Some b → a ≡ b
 some_is e = cc
 
 -- A line of the first report against its namesake of the second: both, the first kept; neither; or the second alone, where it may be.
 abbrev Against : Type 0 → Option Line → Option Line → Type 0
-Against gone none none = Unit {0}
-Against gone none (some l) = gone
-Against gone (some k) none = ⊥
-Against gone (some k) (some l) = Kept k l × (gone → ⊥)
+Against gone None None = Unit {0}
+Against gone None (Some l) = gone
+Against gone (Some k) None = ⊥
+Against gone (Some k) (Some l) = Kept k l × (gone → ⊥)
 
 module _ (gone : Type 0) where
-  shown_same : (o q : Option Line) → Against gone o q → (l : Line) → o ≡ some l → is_unknown l ≡ false → q ≡ some l
-  shown_same none q a l e u = absurd (none_some e)
-  shown_same (some k) none a l e u = absurd a
-  shown_same (some k) (some m) a l e u =
+  shown_same : (o q : Option Line) → Against gone o q → (l : Line) → o ≡ Some l → is_unknown l ≡ false → q ≡ Some l
+  shown_same None q a l e u = absurd (none-some _ e)
+  shown_same (Some k) None a l e u = absurd a
+  shown_same (Some k) (Some m) a l e u =
       let h : k ≡ l = some_is e in
-      ⊎_elim (λ g. ap some (sym g ∙ h)) (λ v. absurd (true≢false (sym v ∙ ap is_unknown h ∙ u))) a.0
+      ⊎_elim (λ g. ap Some (sym g ∙ h)) (λ v. absurd (true≢false (sym v ∙ ap is_unknown h ∙ u))) a.0
 
   taken_from :
       (o q : Option Line)
       → Against gone o q
       → (l : Line)
-      → q ≡ some l
-      → (o ≡ some l) ⊎ (((k : Line) × (o ≡ some k) × (is_unknown k ≡ true)) ⊎ (o ≡ none))
-  taken_from none q a l e = inr (inr refl)
-  taken_from (some k) none a l e = absurd a
-  taken_from (some k) (some m) a l e = ⊎_elim (λ g. inl (ap some g ∙ e)) (λ v. inr (inl (k, refl, v))) a.0
+      → q ≡ Some l
+      → (o ≡ Some l) ⊎ (((k : Line) × (o ≡ Some k) × (is_unknown k ≡ true)) ⊎ (o ≡ None))
+  taken_from None q a l e = inr (inr refl)
+  taken_from (Some k) None a l e = absurd a
+  taken_from (Some k) (Some m) a l e = ⊎_elim (λ g. inl (ap Some g ∙ e)) (λ v. inr (inl (k, refl, v))) a.0
 
-  missing_when : (o q : Option Line) → Against gone o q → (l : Line) → q ≡ some l → (o ≡ none) ↔ gone
-  missing_when none none a l e = absurd (none_some e)
-  missing_when none (some m) a l e = (λ h. a, λ g. refl)
-  missing_when (some k) none a l e = absurd a
-  missing_when (some k) (some m) a l e = (λ h. absurd (none_some (sym h)), λ g. absurd (a.1 g))
+  missing_when : (o q : Option Line) → Against gone o q → (l : Line) → q ≡ Some l → (o ≡ None) ↔ gone
+  missing_when None None a l e = absurd (none-some _ e)
+  missing_when None (Some m) a l e = (λ h. a, λ g. refl)
+  missing_when (Some k) None a l e = absurd a
+  missing_when (Some k) (Some m) a l e = (λ h. absurd (none-some _ (sym h)), λ g. absurd (a.1 g))
 
   -- Items that are kept one by one, and items that are gone.
-  items_against : (gone → ⊥) → (ls ms : List Line) → AllWith Kept ls ms → (i : ℕ) → Against gone (get_elem? ls i) (get_elem? ms i)
+  items_against : (gone → ⊥) → (ls ms : List Line) → AllWith Kept ls ms → (i : ℕ) → Against gone (slice_get ls i) (slice_get ms i)
   items_against n [] [] k i = tt
   items_against n [] (m ∷ ms) k i = absurd k
   items_against n (l ∷ ls) [] k i = absurd k
   items_against n (l ∷ ls) (m ∷ ms) k zero = (k.0, n)
   items_against n (l ∷ ls) (m ∷ ms) k (suc i) = items_against n ls ms k.1 i
 
-  gone_against : gone → (q : Option Line) → Against gone none q
-  gone_against g none = tt
-  gone_against g (some l) = g
+  gone_against : gone → (q : Option Line) → Against gone None q
+  gone_against g None = tt
+  gone_against g (Some l) = g
 
 -- Two groups of the same number: both, the first kept; or neither.
 abbrev GroupsAt : Option Group → Option Group → Type 0
-GroupsAt none none = Unit {0}
-GroupsAt none (some h) = ⊥
-GroupsAt (some g) none = ⊥
-GroupsAt (some g) (some h) = GroupKept g h
+GroupsAt None None = Unit {0}
+GroupsAt None (Some h) = ⊥
+GroupsAt (Some g) None = ⊥
+GroupsAt (Some g) (Some h) = GroupKept g h
 
-groups_at : (gs hs : List Group) → AllWith GroupKept gs hs → (n : ℕ) → GroupsAt (get_elem? gs n) (get_elem? hs n)
+groups_at : (gs hs : List Group) → AllWith GroupKept gs hs → (n : ℕ) → GroupsAt (slice_get gs n) (slice_get hs n)
 groups_at [] [] k n = tt
 groups_at [] (h ∷ hs) k n = absurd k
 groups_at (g ∷ gs) [] k n = absurd k
 groups_at (g ∷ gs) (h ∷ hs) k zero = k.0
 groups_at (g ∷ gs) (h ∷ hs) k (suc n) = groups_at gs hs k.1 n
 
-item_against : (a b : Option Group) → GroupsAt a b → (i : ℕ) → Against (layout_in a ≡ none) (item_in a i) (item_in b i)
+item_against : (a b : Option Group) → GroupsAt a b → (i : ℕ) → Against (layout_in a ≡ None) (item_in a i) (item_in b i)
 unfolding layout_in item_in
-item_against none none k i = tt
-item_against none (some h) k i = absurd k
-item_against (some g) none k i = absurd k
-item_against (some g) (some h) k i =
-    ⊎_elim (λ a. items_against (g.layout ≡ none) a.1 g.items h.items a.0 i)
+item_against None None k i = tt
+item_against None (Some h) k i = absurd k
+item_against (Some g) None k i = absurd k
+item_against (Some g) (Some h) k i =
+    ⊎_elim (λ a. items_against (g.layout ≡ None) a.1 g.items h.items a.0 i)
     (λ a.
-    subst (λ (ls : List Line). Against (g.layout ≡ none) (get_elem? ls i) (get_elem? h.items i)) (sym a.0)
-    (gone_against (g.layout ≡ none) a.1 (get_elem? h.items i)))
+    subst (λ (ls : List Line). Against (g.layout ≡ None) (slice_get ls i) (slice_get h.items i)) (sym a.0)
+    (gone_against (g.layout ≡ None) a.1 (slice_get h.items i)))
     k.items
 
 remainder_against : (a b : Option Group) → GroupsAt a b → Against ⊥ (remainder_in a) (remainder_in b)
 unfolding remainder_in
-remainder_against none none k = tt
-remainder_against none (some h) k = absurd k
-remainder_against (some g) none k = absurd k
-remainder_against (some g) (some h) k = (k.remainder, λ e. e)
+remainder_against None None k = tt
+remainder_against None (Some h) k = absurd k
+remainder_against (Some g) None k = absurd k
+remainder_against (Some g) (Some h) k = (k.remainder, λ e. e)
 
 -- Two reports whose groups are kept and whose response is the same.
 module _ (old new : Report) (kept : AllWith GroupKept old.groups new.groups) (same : old.response ≡ new.response) where
@@ -125,7 +123,7 @@ module _ (old new : Report) (kept : AllWith GroupKept old.groups new.groups) (sa
   reports_keep : Keeps old new
   unfolding verdict
   reports_keep =
-      let shown : (n : Name) (l : Line) → line_at old n ≡ some l → is_unknown l ≡ false → line_at new n ≡ some l =
+      let shown : (n : Name) (l : Line) → line_at old n ≡ Some l → is_unknown l ≡ false → line_at new n ≡ Some l =
       λ n. shown_same (Lacks old n) (line_at old n) (line_at new n) (against n) in
       record {
         shown = shown;
@@ -142,22 +140,22 @@ lacks_at :
     (c d : Catalogue) (o q : Option LayoutRow) (ps qs : List Part)
     → length ps ≡ length qs
     → (g i : ℕ) (l : Line)
-    → item_in (get_elem? (map (group_of d q) qs) g) i ≡ some l
-    → (layout_in (get_elem? (map (group_of c o) ps) g) ≡ none) ↔ (o ≡ none)
+    → item_in (slice_get (map (group_of d q) qs) g) i ≡ Some l
+    → (layout_in (slice_get (map (group_of c o) ps) g) ≡ None) ↔ (o ≡ None)
 unfolding item_in layout_in group_of
-lacks_at c d o q [] [] s g i l e = absurd (none_some e)
+lacks_at c d o q [] [] s g i l e = absurd (none-some _ e)
 lacks_at c d o q [] (p' ∷ qs) s g i l e = absurd (omega arith)
-lacks_at c d o q (p ∷ ps) [] s g i l e = absurd (none_some e)
-lacks_at c d none q (p ∷ ps) (p' ∷ qs) s zero i l e = (λ h. refl, λ h. refl)
-lacks_at c d (some k) q (p ∷ ps) (p' ∷ qs) s zero i l e = (λ h. absurd (none_some (sym h)), λ h. absurd (none_some (sym h)))
+lacks_at c d o q (p ∷ ps) [] s g i l e = absurd (none-some _ e)
+lacks_at c d None q (p ∷ ps) (p' ∷ qs) s zero i l e = (λ h. refl, λ h. refl)
+lacks_at c d (Some k) q (p ∷ ps) (p' ∷ qs) s zero i l e = (λ h. absurd (none-some _ (sym h)), λ h. absurd (none-some _ (sym h)))
 lacks_at c d o q (p ∷ ps) (p' ∷ qs) s (suc g) i l e = lacks_at c d o q ps qs (omega arith) g i l e
 
 lacks_own :
     (c d : Catalogue) (m n : Message)
     → length m.parts ≡ length n.parts
     → (g i : ℕ) (l : Line)
-    → line_at (report_of d n) (item g i) ≡ some l
-    → Lacks (report_of c m) (item g i) ↔ (c.layout m.key ≡ none)
+    → line_at (report_of d n) (item g i) ≡ Some l
+    → Lacks (report_of c m) (item g i) ↔ (c.layout m.key ≡ None)
 unfolding line_at Lacks report_of
 lacks_own c d m n s g i l e = lacks_at c d (c.layout m.key) (d.layout n.key) m.parts n.parts s g i l e
 
@@ -166,10 +164,10 @@ pub lacks_exactly :
     (c d : Catalogue) (m n : Message)
     → Alike c m n
     → (g i : ℕ) (l : Line)
-    → line_at (report_of d n) (item g i) ≡ some l
-    → Lacks (report_of c m) (item g i) ↔ (c.layout n.key ≡ none)
+    → line_at (report_of d n) (item g i) ≡ Some l
+    → Lacks (report_of c m) (item g i) ↔ (c.layout n.key ≡ None)
 lacks_exactly c d m n (inl same) g i l e =
-    subst (λ (x : Message). Lacks (report_of c m) (item g i) ↔ (c.layout x.key ≡ none)) same
+    subst (λ (x : Message). Lacks (report_of c m) (item g i) ↔ (c.layout x.key ≡ None)) same
     (lacks_own c d m n (ap (λ (x : Message). length x.parts) same) g i l e)
 lacks_exactly c d m n (inr a) g i l e = (λ h. a.other, λ h. (lacks_own c d m n a.parts g i l e).1 a.own)
 

@@ -1,7 +1,7 @@
 -- A supplement without kind 4 records whose layouts are as they were shows what document 01's rules showed.
 use mathlib.Core.Path.{◌≡◌, refl, sym, ap, ◌∙◌}
 use mathlib.Core.List.{List, [], ◌∷◌, ◌++◌, map}
-use mathlib.Core.Option.{Option, none, some}
+use Rattle.std.proofs.Common.{Option, None, Some}
 use Prim.Native.Nat.{ℕ, ◌*◌}
 use native.Mathlib.Omega.{arith}
 use borrow.Author.Tests.{ne_eqb}
@@ -44,13 +44,13 @@ map_same f g h (a ∷ l) = λ i. h a i ∷ map_same f g h l i
 group_same :
     (c d : Catalogue) → c.prn ≡ d.prn → c.slot ≡ d.slot → (o : Option LayoutRow) (p : Part) → group_of c o p ≡ group_of d o p
 unfolding group_of
-group_same c d e f none p = refl
-group_same c d e f (some l) p =
+group_same c d e f None p = refl
+group_same c d e f (Some l) p =
     λ i.
     let there : List Spot = spots (e i) p.to (Bit p.from) (p.prns l) in
     record {
       part = p;
-      layout = some l;
+      layout = Some l;
       items = map (item_line (f i) p.bytes) there;
       remainder = remainder_at p.to (place_after (Bit p.from) there);
     }

@@ -1,14 +1,15 @@
 -- The law of Left, for every group of every report.
 use mathlib.Core.Path.{◌≡◌, refl, sym, ap, ◌∙◌, subst}
 use mathlib.Core.Logic.{◌⊎◌, inl, inr, ⊎_elim}
-use mathlib.Core.Bool.{cond, ◌||◌}
+use mathlib.Core.Bool.{Bool, true, false, cond}
 use mathlib.Core.List.Memᴰ
 use mathlib.Core.List.{List, [], ◌∷◌, map, Memᴰ}
-use mathlib.Core.Option.{Option, none, some, none-ne-some}
+use Rattle.std.proofs.Common.{Option, None, Some}
+use Rattle.std.proofs.lemmas.Option.{none-some}
 use Prim.Native.Nat.{ℕ, ◌+◌, ◌-◌, ◌≤◌}
 use native.Mathlib.Omega.{arith}
 use borrow.Author.Tests.{ltb-false}
-use lib.Dec.{eqb, ltb}
+use lib.Dec.{ltb}
 use Rattle.frame.proofs.bytes.Laws.{cases}
 use Rattle.catalogue.specs.declared.rows.PrnRow.{PrnRow}
 use Rattle.catalogue.specs.declared.rows.SlotRow.{SlotRow}
@@ -18,6 +19,8 @@ use Rattle.report.specs.declared.spots.Place.{Place}
 use Rattle.report.specs.declared.spots.Place.TheVariants.{Bit, Lost, Past}
 use Rattle.report.specs.declared.spots.Spot.{Spot}
 use Rattle.report.specs.declared.spots.Spot.TheVariants.{Astray, Beyond, Rowless, Over, Lies}
+use Rattle.report.specs.declared.line.Reason.{Reason}
+use Rattle.report.specs.declared.line.Reason.TheVariants.{NoPrn, PlaceLost, NoSlot, NotShown, NoState, TooWide, DataResponse, NoLayout}
 use Rattle.report.specs.declared.line.Line.{Line}
 use Rattle.report.specs.declared.line.Line.TheVariants.{Number, State, Bits, Text, Digits, Invalid, Short, Unknown, Left, Answered}
 use Rattle.report.specs.Line.{no_prn_reason, place_lost_reason}
@@ -28,34 +31,45 @@ use Rattle.report.specs.Report.{Part, Message, Group, remainder_at, group_of, re
 use Rattle.report.specs.Left.{width_of, item_widths, ShowsShort, ShowsLost, Accounted}
 use Rattle.report.proofs.scaling.Laws.{form_among}
 
+-- A reason that loses the place.
+abbrev loses : Reason → Bool
+loses NoPrn = true
+loses PlaceLost = true
+loses NoSlot = false
+loses NotShown = false
+loses NoState = false
+loses TooWide = false
+loses DataResponse = false
+loses NoLayout = false
+
 -- Where a line that is Short or lost leaves the place.
 abbrev stop : Line → Option Place
-stop (Number x n d) = none
-stop (State n) = none
-stop (Bits n) = none
-stop (Text n) = none
-stop (Digits n) = none
-stop (Invalid n) = none
-stop Short = some Past
-stop (Unknown n) = cond (eqb n no_prn_reason || eqb n place_lost_reason) (some Lost) none
-stop (Left n) = none
-stop (Answered n) = none
+stop (Number x n d) = None
+stop (State n) = None
+stop (Bits n) = None
+stop (Text n) = None
+stop (Digits n) = None
+stop (Invalid n) = None
+stop Short = Some Past
+stop (Unknown n) = cond (loses n) (Some Lost) None
+stop (Left n) = None
+stop (Answered n) = None
 
 -- An item that is cut out does not stop the place.
-slot_goes_on : (o : Option SlotRow) (row : PrnRow) (bytes : List ℕ) (at : ℕ) → stop (slot_line o row bytes at) ≡ none
+slot_goes_on : (o : Option SlotRow) (row : PrnRow) (bytes : List ℕ) (at : ℕ) → stop (slot_line o row bytes at) ≡ None
 unfolding slot_line number_line
-slot_goes_on none row bytes at = refl
-slot_goes_on (some slot) row bytes at =
-    form_among (λ (l : Line). stop l ≡ none) row.form row.width slot _ (λ _. refl) refl refl refl refl refl refl refl refl
+slot_goes_on None row bytes at = refl
+slot_goes_on (Some slot) row bytes at =
+    form_among (λ (l : Line). stop l ≡ None) row.form row.width slot _ (λ _. refl) refl refl refl refl refl refl refl refl
 
 module _ (slots : ℕ → ℕ → ℕ → Option SlotRow) (bytes : List ℕ) where
-  item_stops : (spot : Spot) (q : Place) → stop (item_line slots bytes spot) ≡ some q → behind spot ≡ q
+  item_stops : (spot : Spot) (q : Place) → stop (item_line slots bytes spot) ≡ Some q → behind spot ≡ q
   unfolding item_line
   item_stops Astray q e = cc
   item_stops Beyond q e = cc
   item_stops Rowless q e = cc
   item_stops Over q e = cc
-  item_stops (Lies row at) q e = absurd (none-ne-some q (sym (slot_goes_on _ row bytes at) ∙ e))
+  item_stops (Lies row at) q e = absurd (none-some q (sym (slot_goes_on _ row bytes at) ∙ e))
 
   module _ (rows : ℕ → Option PrnRow) (to : ℕ) where
     -- The lines of some PRNs from a place on, and the place behind them.
@@ -74,7 +88,7 @@ module _ (slots : ℕ → ℕ → ℕ → Option SlotRow) (bytes : List ℕ) whe
     lines_stop :
         (prns : List ℕ) (p : Place) (l : Line) (q : Place)
         → ((prn : ℕ) → behind (spot_of rows to q prn) ≡ q)
-        → stop l ≡ some q
+        → stop l ≡ Some q
         → Memᴰ l (lines_from p prns)
         → place_from p prns ≡ q
     unfolding spots place_after
@@ -94,8 +108,8 @@ module _ (slots : ℕ → ℕ → ℕ → Option SlotRow) (bytes : List ℕ) whe
         → (Unknown no_prn_reason ≡ item_line slots bytes (spot_at o to at) → ⊥)
         → (behind (spot_at o to at) ≡ Bit (at + width_of o)) × (at + width_of o ≤ to)
     unfolding spot_at item_line width_of
-    spot_moves none at s u = absurd (u refl)
-    spot_moves (some row) at s u =
+    spot_moves None at s u = absurd (u refl)
+    spot_moves (Some row) at s u =
         cases (ltb to (at + row.width)) (λ t. absurd (s (rw t))) (λ f. (rw f, ltb-false to (at + row.width) f))
 
     all_move :
@@ -122,7 +136,7 @@ module _ (slots : ℕ → ℕ → ℕ → Option SlotRow) (bytes : List ℕ) whe
         later (inr m) = inr (Memᴰ.tail m)
 
 -- The law for a group whose layout was found.
-group_accounted : (c : Catalogue) (p : Part) (l : LayoutRow) → Accounted c l (group_of c (some l) p)
+group_accounted : (c : Catalogue) (p : Part) (l : LayoutRow) → Accounted c l (group_of c (Some l) p)
 unfolding group_of remainder_at spot_of
 group_accounted c p l =
     let prns : List ℕ = p.prns l in
@@ -143,17 +157,17 @@ group_accounted c p l =
       short = λ m. ap (remainder_at p.to) (stops Short Past (λ prn. refl) refl m);
     }
 
-groups_accounted : (c : Catalogue) (l : LayoutRow) (ps : List Part) (g : Group) → Memᴰ g (map (group_of c (some l)) ps) → Accounted c l g
+groups_accounted : (c : Catalogue) (l : LayoutRow) (ps : List Part) (g : Group) → Memᴰ g (map (group_of c (Some l)) ps) → Accounted c l g
 groups_accounted c l [] g m = absurd (Memᴰ.not-nil m)
 groups_accounted c l (p ∷ ps) g m =
-    ⊎_elim (λ (e : g ≡ group_of c (some l) p). subst (Accounted c l) (sym e) (group_accounted c p l))
-    (λ (t : Memᴰ g (map (group_of c (some l)) ps)). groups_accounted c l ps g t)
+    ⊎_elim (λ (e : g ≡ group_of c (Some l) p). subst (Accounted c l) (sym e) (group_accounted c p l))
+    (λ (t : Memᴰ g (map (group_of c (Some l)) ps)). groups_accounted c l ps g t)
     (Memᴰ.cases_cons m)
 
 -- "item widths plus Left equal the bits after the selector, if no line is Short or lost": every group of a report whose layout was found.
 pub left_accounted :
     (c : Catalogue) (m : Message) (l : LayoutRow)
-    → c.layout m.key ≡ some l
+    → c.layout m.key ≡ Some l
     → (g : Group)
     → Memᴰ g (report_of c m).groups
     → Accounted c l g

@@ -2,7 +2,7 @@
 use mathlib.Core.Path.{◌≡◌, refl, ap, ◌∙◌, subst}
 use mathlib.Core.List.Memᴰ
 use mathlib.Core.List.{List, [], ◌∷◌, ◌++◌, Memᴰ}
-use mathlib.Core.Option.{Option, none, some}
+use Rattle.std.proofs.Common.{Option, None, Some}
 use Prim.Native.Nat.{ℕ, zero, suc, ◌+◌, ◌-◌, ◌*◌}
 use native.Mathlib.Omega.{arith}
 use lib.ListN.{length, take, drop, length-take, length-drop}
@@ -37,13 +37,13 @@ divided c p =
 
 part_of : (c : Catalogue) (o : Option LayoutRow) (p : Part) → (group_of c o p).part ≡ p
 unfolding group_of
-part_of c none p = refl
-part_of c (some l) p = refl
+part_of c None p = refl
+part_of c (Some l) p = refl
 
 -- "item widths plus Left equal the bits after the selector, if no line is Short or lost"
 pub left_behind :
     (c : Catalogue) (p : Parts) (l : LayoutRow)
-    → c.layout (message_of c p).key ≡ some l
+    → c.layout (message_of c p).key ≡ Some l
     → (g : Group)
     → Memᴰ g (report_of c (message_of c p)).groups
     → LeftBehind c p l g

@@ -1,7 +1,7 @@
 -- How long the rows of a report are, and how large what the call hands over.
 use mathlib.Core.Path.{◌≡◌, ap, ◌∙◌}
 use mathlib.Core.List.{List, [], ◌∷◌, ◌++◌, map}
-use mathlib.Core.Option.{Option, none, some}
+use Rattle.std.proofs.Common.{Option, None, Some}
 use Prim.Native.Nat.{ℕ, ◌+◌, ◌*◌, ◌≤◌}
 use native.Mathlib.Omega.{arith}
 use borrow.Author.Tests.{le-ltb}
@@ -39,8 +39,8 @@ response_row kind = cases (eqb kind kind_data) (λ t. rw t (omega arith)) (λ f.
 
 group_remainder : (c : Catalogue) (o : Option LayoutRow) (p : Part) → length (row (group_of c o p).remainder) ≤ byte_row_size
 unfolding group_of row
-group_remainder c none p = omega arith
-group_remainder c (some l) p = remainder_row p.to _
+group_remainder c None p = omega arith
+group_remainder c (Some l) p = remainder_row p.to _
 
 -- The bytes of a group at the most: at most sixteen items, none longer than a Number, and a remainder.
 abbrev group_bytes : ℕ
@@ -50,7 +50,7 @@ module _ (c : Catalogue) (o : Option LayoutRow) where
   -- Every part has at most sixteen PRNs.
   abbrev Sixteen : List Part → Type 0
   Sixteen [] = Unit {0}
-  Sixteen (p ∷ ps) = ((l : LayoutRow) → o ≡ some l → length (p.prns l) ≤ most_prns) × Sixteen ps
+  Sixteen (p ∷ ps) = ((l : LayoutRow) → o ≡ Some l → length (p.prns l) ≤ most_prns) × Sixteen ps
 
   groups_most : (ps : List Part) → Sixteen ps → length (rows_of (group_lines (map (group_of c o) ps))) ≤ group_bytes * length ps
   unfolding group_lines rows_of

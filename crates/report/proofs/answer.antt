@@ -1,2 +1,3 @@
 -- Laws of the answer.
 pub mod Laws
+pub mod Sizes

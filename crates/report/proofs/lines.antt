@@ -1,2 +1,2 @@
--- Laws of the report struct.
+-- Laws of lines.
 pub mod Laws

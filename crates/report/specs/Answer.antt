@@ -1,5 +1,5 @@
 -- What the report of a reading answers, on any bus: document 01, "A report tests the supplement, then the frame, then 8."
-use Rattle.std.specs.Prelude.{ℕ, cond, List, eqb, ltb, length}
+use Rattle.std.specs.Prelude.{ℕ, cond, List, eqb, ltb, length, Result, Ok, Err}
 use Rattle.frame.specs.Frame.{Parts}
 use Rattle.frame.specs.Bytes.{placed}
 use Rattle.frame.specs.Refusal.{output_short, no_refusal, Outcome}
@@ -7,8 +7,8 @@ use Rattle.frame.specs.Reader.{read_frame}
 use Rattle.frame.specs.Iso.{read_iso}
 use Rattle.catalogue.specs.Supplement.{check}
 use Rattle.catalogue.specs.Lookup.{catalogue}
-use Rattle.report.specs.declared.answer.Reported.{Reported}
-use Rattle.report.specs.declared.answer.Reported.TheVariants.{Refused, Shown}
+use Rattle.report.specs.declared.refusal.Refusal.{Refusal}
+use Rattle.report.specs.Refusal.{number_of, place_of}
 use Rattle.report.specs.Report.{Report, message_of, report_of}
 use Rattle.report.specs.Rows.{report_bytes}
 use Rattle.frame.specs.Refusal as frame
@@ -53,7 +53,7 @@ abbrev pub sized : Answer (List ℕ) → Answer ℕ
 sized (refused n place) = refused n place
 sized (shown rows) = shown (length rows)
 
--- The number and the values of each case of the call's enum.
-abbrev pub reported_of : Reported → Answer ℕ
-reported_of (Refused n place) = refused n place
-reported_of (Shown size) = shown size
+-- What the call gives: the length of the rows, or a refusal as its number and place.
+abbrev pub reported_of : Result ℕ Refusal → Answer ℕ
+reported_of (Ok size) = shown size
+reported_of (Err e) = refused (number_of e) (place_of e)

@@ -1,7 +1,5 @@
 -- Demand 3, sentence by sentence, for two reports of one frame.
-use Rattle.std.specs.Prelude.{ℕ, ◌≡◌, ◌↔◌, ◌⊎◌, true, false, length}
-use Rattle.std.proofs.Math.Option.{Option, none, some}
-use Rattle.std.proofs.Math.ListN.{get_elem?}
+use Rattle.std.specs.Prelude.{ℕ, ◌≡◌, ◌↔◌, ◌⊎◌, true, false, length, slice_get, Option, None, Some}
 use Rattle.catalogue.specs.Record.{LayoutRow}
 use Rattle.catalogue.specs.Lookup.{Catalogue}
 use Rattle.report.specs.declared.line.Line.{Line}
@@ -17,33 +15,33 @@ pub data Name : Type 0 where
   response : Name
 
 unfoldable pub item_in : Option Group → ℕ → Option Line
-item_in none i = none
-item_in (some g) i = get_elem? g.items i
+item_in None i = None
+item_in (Some g) i = slice_get g.items i
 
 unfoldable pub remainder_in : Option Group → Option Line
-remainder_in none = none
-remainder_in (some g) = some g.remainder
+remainder_in None = None
+remainder_in (Some g) = Some g.remainder
 
 unfoldable pub layout_in : Option Group → Option LayoutRow
-layout_in none = none
-layout_in (some g) = g.layout
+layout_in None = None
+layout_in (Some g) = g.layout
 
 -- The line of a name, if the report has it.
 unfoldable pub line_at : Report → Name → Option Line
-line_at r (item g i) = item_in (get_elem? r.groups g) i
-line_at r (remainder g) = remainder_in (get_elem? r.groups g)
-line_at r response = some r.response
+line_at r (item g i) = item_in (slice_get r.groups g) i
+line_at r (remainder g) = remainder_in (slice_get r.groups g)
+line_at r response = Some r.response
 
 -- What may go missing, by name: "only item lines", where the report lacks the layout of their group.
 unfoldable pub Lacks : Report → Name → Type 0
-Lacks r (item g i) = layout_in (get_elem? r.groups g) ≡ none
+Lacks r (item g i) = layout_in (slice_get r.groups g) ≡ None
 Lacks r (remainder g) = ⊥
 Lacks r response = ⊥
 
 -- A frame's messages under two catalogues: one message; or two, for neither of which the first catalogue has a layout.
 pub record Neither (c : Catalogue) (m n : Message) : Type 0 where
-  pub own : c.layout m.key ≡ none
-  pub other : c.layout n.key ≡ none
+  pub own : c.layout m.key ≡ None
+  pub other : c.layout n.key ≡ None
   pub parts : length m.parts ≡ length n.parts
   pub kind : m.kind ≡ n.kind
 
@@ -54,7 +52,7 @@ Alike c m n = (m ≡ n) ⊎ Neither c m n
 -- selector length for a header of the first's layouts:
 pub record Keeps (old new : Report) : Type 0 where
   -- "What the first shows as anything but Unknown is the same under the second;
-  pub shown : (n : Name) (l : Line) → line_at old n ≡ some l → is_unknown l ≡ false → line_at new n ≡ some l
+  pub shown : (n : Name) (l : Line) → line_at old n ≡ Some l → is_unknown l ≡ false → line_at new n ≡ Some l
   -- Clear stays Clear,
   pub clear : verdict old ≡ verdict_clear → verdict new ≡ verdict_clear
   -- Flagged stays Flagged;
@@ -62,11 +60,11 @@ pub record Keeps (old new : Report) : Type 0 where
   -- with records taken away, each line is the same or Unknown or missing,
   pub taken :
       (n : Name) (l : Line)
-      → line_at new n ≡ some l
-      → (line_at old n ≡ some l) ⊎ (((k : Line) × (line_at old n ≡ some k) × (is_unknown k ≡ true)) ⊎ (line_at old n ≡ none))
+      → line_at new n ≡ Some l
+      → (line_at old n ≡ Some l) ⊎ (((k : Line) × (line_at old n ≡ Some k) × (is_unknown k ≡ true)) ⊎ (line_at old n ≡ None))
   -- only item lines go missing, each exactly when the first supplement lacks the layout that the second report uses,
-  pub missing : (n : Name) (l : Line) → line_at new n ≡ some l → (line_at old n ≡ none) ↔ Lacks old n
+  pub missing : (n : Name) (l : Line) → line_at new n ≡ Some l → (line_at old n ≡ None) ↔ Lacks old n
   -- and no verdict becomes Clear."
   pub not_clear : (verdict new ≡ verdict_clear → ⊥) → verdict old ≡ verdict_clear → ⊥
   -- "two lines are the same if their rows below are equal byte for byte": so are those of what the first shows
-  pub rows : (n : Name) (l k : Line) → line_at old n ≡ some l → is_unknown l ≡ false → line_at new n ≡ some k → row l ≡ row k
+  pub rows : (n : Name) (l k : Line) → line_at old n ≡ Some l → is_unknown l ≡ false → line_at new n ≡ Some k → row l ≡ row k

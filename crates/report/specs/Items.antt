@@ -1,6 +1,5 @@
 -- The line of an item, from its spot and its SLOT: document 01, "The report".
-use Rattle.std.specs.Prelude.{ℕ, List}
-use Rattle.std.proofs.Math.Option.{Option, none, some}
+use Rattle.std.specs.Prelude.{ℕ, List, Option, None, Some}
 use Rattle.catalogue.specs.declared.rows.PrnRow.{PrnRow}
 use Rattle.catalogue.specs.declared.rows.SlotRow.{SlotRow}
 use Rattle.report.specs.declared.spots.Spot.{Spot}
@@ -13,8 +12,8 @@ use Rattle.report.specs.Scaling.{form_line}
 
 -- "no SLOT of that form, width and number, Unknown 3"; with one, by the form.
 unfoldable pub slot_line : Option SlotRow → PrnRow → List ℕ → ℕ → Line
-slot_line none row bytes at = Unknown no_slot_reason
-slot_line (some slot) row bytes at = form_line row.form row.width slot (cut bytes at row.width)
+slot_line None row bytes at = Unknown no_slot_reason
+slot_line (Some slot) row bytes at = form_line row.form row.width slot (cut bytes at row.width)
 
 -- "place lost, Unknown 2; an earlier line Short, Short; PRN in neither table, Unknown 1 .. item ends past the data, Short"
 unfoldable pub item_line : (ℕ → ℕ → ℕ → Option SlotRow) → List ℕ → Spot → Line

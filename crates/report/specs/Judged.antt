@@ -1,6 +1,7 @@
 -- The verdict, said of the lines that a report shows: document 01, "The report".
 use Rattle.std.specs.Prelude.{ℕ, ◌≡◌, ◌↔◌, ◌⊎◌}
 use mathlib.Core.List.{List, Memᴰ}
+use Rattle.report.specs.declared.line.Reason.{Reason}
 use Rattle.report.specs.declared.line.Line.{Line}
 use Rattle.report.specs.declared.line.Line.TheVariants.{Invalid, Short, Unknown, Left}
 use Rattle.report.specs.Verdict.{verdict_clear, verdict_flagged, verdict_unknown}
@@ -11,7 +12,7 @@ abbrev pub ShowsFlagged : List Line → Type 0
 ShowsFlagged ls = ((n : ℕ) × Memᴰ (Invalid n) ls) ⊎ (Memᴰ Short ls ⊎ ((n : ℕ) × Memᴰ (Left n) ls × (n ≡ 0 → ⊥)))
 
 abbrev pub ShowsUnknown : List Line → Type 0
-ShowsUnknown ls = (n : ℕ) × Memᴰ (Unknown n) ls
+ShowsUnknown ls = (n : Reason) × Memᴰ (Unknown n) ls
 
 -- The verdict of every report, from the lines that it shows.
 pub record Judged (r : Report) : Type 0 where

@@ -1,7 +1,6 @@
 -- The law of Left: document 01, "Promises a buyer can hold you to".
-use Rattle.std.specs.Prelude.{ℕ, ◌+◌, ◌-◌, ◌≡◌, ◌⊎◌}
+use Rattle.std.specs.Prelude.{ℕ, ◌+◌, ◌-◌, ◌≡◌, ◌⊎◌, Option, None, Some}
 use mathlib.Core.List.{List, [], ◌∷◌, Memᴰ}
-use Rattle.std.proofs.Math.Option.{Option, none, some}
 use Rattle.catalogue.specs.declared.rows.PrnRow.{PrnRow}
 use Rattle.catalogue.specs.Record.{LayoutRow}
 use Rattle.catalogue.specs.Lookup.{Catalogue}
@@ -12,8 +11,8 @@ use Rattle.report.specs.Report.{Group}
 
 -- The width of an item as the catalogue knows it; a PRN in neither table has none.
 unfoldable pub width_of : Option PrnRow → ℕ
-width_of none = 0
-width_of (some row) = row.width
+width_of None = 0
+width_of (Some row) = row.width
 
 -- "item widths": those of a layout's PRNs together.
 unfoldable pub item_widths : (ℕ → Option PrnRow) → List ℕ → ℕ

@@ -6,6 +6,7 @@ pub mod Items
 pub mod Verdict
 pub mod Report
 pub mod Rows
+pub mod Refusal
 pub mod Answer
 pub mod Fraction
 pub mod Demand
@@ -14,4 +15,6 @@ pub mod Selector
 pub mod Judged
 pub mod TwoCalls
 pub mod Former
+pub mod Sizes
 pub mod Inner
+pub mod Window

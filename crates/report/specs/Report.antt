@@ -1,6 +1,5 @@
 -- The report of a message: document 01, "The report"; document 02, K5.
-use Rattle.std.specs.Prelude.{ℕ, ◌-◌, ◌*◌, ◌%◌, cond, List, [], ◌∷◌, ◌++◌, map, eqb, length, take, get_or}
-use Rattle.std.proofs.Math.Option.{Option, none, some}
+use Rattle.std.specs.Prelude.{ℕ, ◌-◌, ◌*◌, ◌%◌, cond, List, [], ◌∷◌, ◌++◌, map, eqb, length, take, get_or, Option, None, Some}
 use Rattle.frame.specs.Header.{bit_h}
 use Rattle.frame.specs.Response.{kind_data, kind_number}
 use Rattle.frame.specs.Frame.{Parts}
@@ -83,11 +82,11 @@ spots_in c p l = spots c.prn p.to (Bit p.from) (p.prns l)
 
 -- "no layout, Unknown 8", and no item lines; else the lines of the part's PRNs and what they leave.
 unfoldable pub group_of : Catalogue → Option LayoutRow → Part → Group
-group_of c none p = record { part = p; layout = none; items = []; remainder = Unknown no_layout_reason }
-group_of c (some l) p =
+group_of c None p = record { part = p; layout = None; items = []; remainder = Unknown no_layout_reason }
+group_of c (Some l) p =
     record {
       part = p;
-      layout = some l;
+      layout = Some l;
       items = map (item_line c.slot p.bytes) (spots_in c p l);
       remainder = remainder_at p.to (place_after (Bit p.from) (spots_in c p l));
     }

@@ -5,11 +5,28 @@ use Rattle.std.specs.Float.Ieee.{to_bits}
 use Rattle.catalogue.specs.Record.{most_prns}
 use Rattle.report.specs.declared.line.Line.{Line}
 use Rattle.report.specs.declared.line.Line.TheVariants.{Number, State, Bits, Text, Digits, Invalid, Short, Unknown, Left, Answered}
+use Rattle.report.specs.declared.row.RowKind.{RowKind}
+use Rattle.report.specs.declared.row.RowKind.TheVariants as kind
+use Rattle.report.specs.Line.{reason_number}
 use Rattle.report.specs.Report.{Report, lines_of, verdict}
 
 -- The kind of the verdict's row, the last one.
 abbrev pub verdict_row_kind : ℕ
 verdict_row_kind = 11
+
+-- The kinds of rows by number.
+abbrev pub kind_of_row : RowKind → ℕ
+kind_of_row kind.Number = 1
+kind_of_row kind.State = 2
+kind_of_row kind.Bits = 3
+kind_of_row kind.Text = 4
+kind_of_row kind.Digits = 5
+kind_of_row kind.Invalid = 6
+kind_of_row kind.Short = 7
+kind_of_row kind.Unknown = 8
+kind_of_row kind.Left = 9
+kind_of_row kind.Answered = 10
+kind_of_row kind.Verdict = verdict_row_kind
 
 -- Bytes of a Number's parts, "the double, the whole number (8, signed), the divisor (2)" (document 02, K3), and of a code.
 abbrev pub double_bytes : ℕ
@@ -66,7 +83,7 @@ row (Text n) = 4 ∷ big_endian code_bytes n
 row (Digits n) = 5 ∷ big_endian code_bytes n
 row (Invalid n) = 6 ∷ big_endian code_bytes n
 row Short = 7 ∷ []
-row (Unknown n) = 8 ∷ n ∷ []
+row (Unknown n) = 8 ∷ reason_number n ∷ []
 row (Left n) = 9 ∷ n ∷ []
 row (Answered n) = 10 ∷ n ∷ []
 

@@ -1,6 +1,5 @@
 -- Where each item of a layout lies: document 01, "The report", the first rules of an item line. It follows from the PRNs' rows alone.
-use Rattle.std.specs.Prelude.{ℕ, ◌+◌, cond, List, [], ◌∷◌, ltb}
-use Rattle.std.proofs.Math.Option.{Option, none, some}
+use Rattle.std.specs.Prelude.{ℕ, ◌+◌, cond, List, [], ◌∷◌, ltb, Option, None, Some}
 use Rattle.catalogue.specs.declared.rows.PrnRow.{PrnRow}
 use Rattle.report.specs.declared.spots.Place.{Place}
 use Rattle.report.specs.declared.spots.Place.TheVariants.{Bit, Lost, Past}
@@ -9,8 +8,8 @@ use Rattle.report.specs.declared.spots.Spot.TheVariants.{Astray, Beyond, Rowless
 
 -- An item that begins at a bit, by its PRN's row and the bit where items end: "PRN in neither table"; "item ends past the data".
 unfoldable pub spot_at : Option PrnRow → ℕ → ℕ → Spot
-spot_at none to at = Rowless
-spot_at (some row) to at = cond (ltb to (at + row.width)) Over (Lies row at)
+spot_at None to at = Rowless
+spot_at (Some row) to at = cond (ltb to (at + row.width)) Over (Lies row at)
 
 -- "place lost"; "an earlier line Short"; else by the PRN's row.
 unfoldable pub spot_of : (ℕ → Option PrnRow) → ℕ → Place → ℕ → Spot

@@ -1,6 +1,5 @@
 -- Demand 3 on the call itself: what two accepted calls for one reading hand over, on any bus.
-use Rattle.std.specs.Prelude.{ℕ, ◌-◌, ◌≡◌, ◌↔◌, List, length, get_or}
-use Rattle.std.proofs.Math.Option.{none, some}
+use Rattle.std.specs.Prelude.{ℕ, ◌-◌, ◌≡◌, ◌↔◌, List, length, get_or, None, Some}
 use Rattle.frame.specs.Frame.{Parts}
 use Rattle.frame.specs.Refusal.{Outcome, accepted}
 use Rattle.catalogue.specs.Lookup.{catalogue}
@@ -28,8 +27,8 @@ pub record Compared (o : Outcome Parts) (s t old new : List ℕ) : Type 0 where
   -- "the first supplement lacks the layout that the second report uses": what `Lacks` says of an item line that the second has,
   pub lacks :
       (g i : ℕ) (l : Line)
-      → line_at (under t parts) (item g i) ≡ some l
-      → Lacks (under s parts) (item g i) ↔ ((catalogue s).layout (message_of (catalogue t) parts).key ≡ none)
+      → line_at (under t parts) (item g i) ≡ Some l
+      → Lacks (under s parts) (item g i) ↔ ((catalogue s).layout (message_of (catalogue t) parts).key ≡ None)
   -- and the verdicts that the rows end in keep it too.
   pub clear : verdict_in old ≡ verdict_clear → verdict_in new ≡ verdict_clear
   pub flagged : verdict_in old ≡ verdict_flagged → verdict_in new ≡ verdict_flagged

@@ -1,6 +1,8 @@
 -- The verdict of lines: document 01, "The report".
 use Rattle.std.specs.Prelude.{ℕ, Bool, false, cond, ◌||◌, List, [], ◌∷◌}
 use Rattle.report.specs.declared.line.Line.{Line}
+use Rattle.report.specs.declared.verdict.Verdict.{Verdict}
+use Rattle.report.specs.declared.verdict.Verdict.TheVariants.{Clear, Flagged, Unknown}
 use Rattle.report.specs.Line.{is_flagged, is_unknown}
 
 abbrev pub verdict_clear : ℕ
@@ -11,6 +13,12 @@ verdict_flagged = 2
 
 abbrev pub verdict_unknown : ℕ
 verdict_unknown = 3
+
+-- The numbers of the enum's variants, as above.
+abbrev pub verdict_number : Verdict → ℕ
+verdict_number Clear = verdict_clear
+verdict_number Flagged = verdict_flagged
+verdict_number Unknown = verdict_unknown
 
 -- Whether a test holds for a line.
 unfoldable pub any : (Line → Bool) → List Line → Bool

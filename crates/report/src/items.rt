@@ -1,56 +1,58 @@
 // The line of an item, from where it lies and its SLOT.
 ghost use Rattle.std.specs.Prelude.{◌≡◌, ◌≤◌};
-ghost use Rattle.catalogue.specs.Supplement.{records_of, Good};
 ghost use Rattle.catalogue.specs.Lookup.{catalogue};
 ghost use Rattle.report.specs.Bits.{cut};
 ghost use Rattle.report.specs.Scaling.{form_line};
 ghost use Rattle.report.specs.Items.{slot_line, item_line};
-ghost use Rattle.report.specs.Inner.{most_bits, Lying};
+ghost use Rattle.report.specs.Inner.{Lying};
 
 use crate::bits::cut_bits;
-use crate::line::{Line, NO_PRN, NO_SLOT, NOT_SHOWN, PLACE_LOST, TOO_WIDE};
-use crate::scaling::{WIDEST_SHOWN, form_line};
+use crate::line::{Line, Reason};
+use crate::scaling::{Item, WIDEST_SHOWN};
 use crate::spots::Spot;
-use catalogue::lookup::find_slot;
-use catalogue::rows::{BMM, PrnRow, SlotFound, SlotRow};
+use crate::window::Window;
+use catalogue::accept::Supplement;
+use catalogue::rows::{BMM, PrnRow, SlotRow};
 
 // The line of an item whose SLOT was found.
-fn known_line(form: u8, width: u8, slot: SlotRow, bytes: &[u8], at: usize) -> Line
-    requires { (slot.form ≡ form) × (slot.width ≡ width) × (1 ≤ width) × (at ≤ most_bits) }
-    ensures { result ≡ form_line form width slot (cut bytes.now at width) }
+#[tactic(auto, using(crate::proofs::bits::Laws::cut_lt, crate::proofs::scaling::Laws::form_high, crate::proofs::scaling::Laws::form_wide))]
+fn known_line(slot: SlotRow, bytes: &[u8], at: u8) -> Line
+    requires { 1 ≤ slot.width }
+    ensures { result ≡ form_line slot.form slot.width slot (cut bytes.now at slot.width) }
 {
-    if BMM <= form {
-        return Line::Unknown(NOT_SHOWN);
+    if BMM <= slot.form {
+        return Line::Unknown(Reason::NotShown);
     }
-    if WIDEST_SHOWN < width {
-        return Line::Unknown(TOO_WIDE);
+    if WIDEST_SHOWN < slot.width {
+        return Line::Unknown(Reason::TooWide);
     }
-    form_line(form, width, slot, cut_bits(bytes, at, width))
+    let raw = cut_bits(bytes, at, slot.width);
+    let item = Item { slot, raw };
+    item.line()
 }
 
 // The line of an item that lies from a bit on.
-fn slot_line(s: &[u8], bytes: &[u8], row: PrnRow, at: usize) -> Line
-    requires { Good (records_of s.now) × (1 ≤ row.width) × (at ≤ most_bits) }
-    ensures { result ≡ slot_line ((catalogue s.now).slot row.form row.width row.slot) row bytes.now at }
+fn slot_line(supplement: &Supplement, bytes: &[u8], row: PrnRow, at: u8) -> Line
+    requires { 1 ≤ row.width }
+    ensures { result ≡ slot_line ((catalogue supplement.now.bytes.now).slot row.form row.width row.slot) row bytes.now at }
 {
-    let found = find_slot(s, row.form, row.width, row.slot);
-    match found {
-        SlotFound::Missing => Line::Unknown(NO_SLOT),
-        SlotFound::Found(slot) => known_line(row.form, row.width, slot, bytes, at),
+    match supplement.slot(row.form, row.width, row.slot) {
+        Some(slot) => known_line(slot, bytes, at),
+        None => Line::Unknown(Reason::NoSlot),
     }
 }
 
 // The line of an item by its spot.
 #[tactic(auto, unfolding(crate::specs::Items::item_line))]
-pub(crate) fn item_line(s: &[u8], bytes: &[u8], spot: Spot) -> Line
-    requires { Good (records_of s.now) × Lying most_bits spot }
-    ensures { result ≡ item_line (catalogue s.now).slot bytes.now spot }
+pub(crate) fn item_line(supplement: &Supplement, window: Window, spot: Spot) -> Line
+    requires { Lying window.to spot }
+    ensures { result ≡ item_line (catalogue supplement.now.bytes.now).slot window.entry.bytes.now spot }
 {
     match spot {
-        Spot::Astray => Line::Unknown(PLACE_LOST),
+        Spot::Astray => Line::Unknown(Reason::PlaceLost),
         Spot::Beyond => Line::Short,
-        Spot::Rowless => Line::Unknown(NO_PRN),
+        Spot::Rowless => Line::Unknown(Reason::NoPrn),
         Spot::Over => Line::Short,
-        Spot::Lies(row, at) => slot_line(s, bytes, row, at),
+        Spot::Lies(row, at) => slot_line(supplement, window.bytes, row, at),
     }
 }

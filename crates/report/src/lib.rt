@@ -1,7 +1,7 @@
 // Reports: what a frame shows under the SAE tables and a supplement.
 #![tactic(auto)]
 
-pub mod answer;
+mod answer;
 mod bits;
 mod group;
 pub mod iso;
@@ -10,9 +10,11 @@ pub mod j1850;
 pub mod line;
 pub mod lines;
 mod message;
+pub mod refusal;
 mod row;
 mod rows;
 mod scaling;
 pub mod spots;
 pub mod tally;
 mod verdict;
+mod window;

@@ -1,28 +1,71 @@
-// The report struct: its lines flat, in the order of their rows, and what they add up to.
-ghost use Rattle.std.specs.Prelude.{[]};
-ghost use Rattle.report.specs.Inner.{Shows};
+// The lines of a report, in the order of their rows, and what they add up to.
+ghost use Rattle.std.specs.Prelude.{◌≡◌, ◌*◌, ◌≤◌, ◌<◌, [], ◌∷◌, ◌++◌, length};
+ghost use Rattle.report.specs.Rows.{number_row_size};
+ghost use Rattle.report.specs.Inner.{most_lines, tally_of};
 
-use crate::line::{Held, Line};
-use crate::tally::{Tally, no_lines};
+use crate::line::Line;
+use crate::tally::{Tally, tallied};
 use catalogue::kind::MOST_PRNS;
+use std::marker::Model;
 
 // A remainder and a response beside the item lines at the most.
-pub(crate) const MOST_LINES: usize = MOST_PRNS + 2;
+const MOST_LINES: usize = MOST_PRNS + 2;
 
-// The lines that are shown, their count and what they add up to.
-#[derive(Clone, Copy)]
-pub struct Report {
-    pub held: [Held; MOST_LINES],
-    pub count: usize,
-    pub tally: Tally,
+// The lines of a report: without a heap an array and how many of it count, seen as a list. They are added where they lie and lent for
+// reading, so that the array is never copied.
+#[derive(Drop)]
+pub struct Lines {
+    held: [Line; MOST_LINES],
+    count: usize,
+    tally: Tally,
 }
 
-pub(crate) fn empty() -> Report
-    ensures { Shows result [] }
-{
-    Report {
-        held: [Held { line: Line::Short }; MOST_LINES],
-        count: 0,
-        tally: no_lines(),
+impl Model for Lines {
+    ghost use Rattle.std.specs.Prelude.{◌≡◌, ◌≤◌, List, take};
+    ghost use Rattle.report.specs.declared.line.Line.{Line};
+    ghost use Rattle.report.specs.Inner.{most_lines, tally_of};
+
+    ghost Value = { List Line };
+
+    ghost view = { λ a. take a.count a.held };
+
+    ghost invariant = { λ a. (a.count ≤ most_lines) × (a.tally ≡ tally_of (take a.count a.held)) };
+}
+
+impl Lines {
+    #[tactic(auto, unfolding(crate::specs::Inner::tally_of, crate::specs::Verdict::any, crate::specs::Rows::rows_of))]
+    pub(crate) fn new() -> Self
+        ensures { result ≡ [] }
+    {
+        Lines {
+            held: [Line::Short; MOST_LINES],
+            count: 0,
+            tally: Tally::default(),
+        }
+    }
+
+    #[tactic(auto, using(crate::proofs::lines::Laws::tally_few, crate::proofs::lines::Laws::tally_more))]
+    pub(crate) fn push(&mut self, line: Line)
+        requires { length self.old < most_lines }
+        ensures { self.new ≡ self.old ++ line ∷ [] }
+    {
+        self.held[self.count] = line;
+        self.count += 1;
+        self.tally = tallied(self.tally, line);
+    }
+
+    pub(crate) fn as_slice(&self) -> &[Line]
+        ensures { result.now ≡ self.now }
+    {
+        &self.held[..self.count]
+    }
+
+    // What the lines add up to, counted as they were added.
+    #[tactic(auto, using(crate::proofs::lines::Laws::tally_few))]
+    pub(crate) fn tally(&self) -> Tally
+        ensures sum { result ≡ tally_of self.now }
+        ensures most { result.size ≤ number_row_size * most_lines }
+    {
+        self.tally
     }
 }

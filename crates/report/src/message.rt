@@ -1,23 +1,25 @@
 // The report of a message: its selector, its layout, its group, its response.
-ghost use Rattle.std.specs.Prelude.{◌≡◌, ◌≤◌, length, take};
-ghost use Rattle.frame.specs.Frame.{most_bytes};
-ghost use Rattle.catalogue.specs.Record.{record_with};
-ghost use Rattle.catalogue.specs.Supplement.{records_of, Good};
-ghost use Rattle.catalogue.specs.Lookup.{catalogue, length_for, layout_key, layout_found};
-ghost use Rattle.report.specs.Report.{key_byte, key_target, response_line, report_from, lines_of};
-ghost use Rattle.report.specs.Inner.{Shows};
+ghost use Rattle.std.specs.Prelude.{◌≡◌, ◌≤◌, [], length, take};
+ghost use Rattle.frame.specs.Frame.{most_bytes, handed};
+ghost use Rattle.frame.specs.Response.{kind_number};
+ghost use Rattle.catalogue.specs.Lookup.{catalogue, length_for, layout_key};
+ghost use Rattle.report.specs.Report.{key_byte, key_target, response_line, lines_of};
+ghost use Rattle.report.specs.Answer.{under};
 
-use crate::group::with_group;
-use crate::line::{DATA_RESPONSE, Held, Line};
-use crate::lines::{Report, empty};
-use crate::tally::tallied;
-use catalogue::kind::LAYOUT;
-use catalogue::lookup::{LayoutFound, find_layout, find_length};
+use crate::group::add_group;
+use crate::line::{Line, Reason};
+use crate::lines::Lines;
+use crate::window::Window;
+use catalogue::accept::Supplement;
+use catalogue::kind::Kind;
+use catalogue::layout::Layout;
 use frame::bytes::byte_at;
+use frame::frame::Parts;
 use frame::header::{THREE_BYTE_FORM, header_size};
-use frame::response::KIND_DATA;
+use frame::response::ResponseKind;
 
 // The first byte of the layout sought: no layout of three header bytes has a priority.
+#[tactic(auto, using(crate::proofs::message::Laws::key_byte_three, crate::proofs::message::Laws::key_byte_one))]
 fn key_byte(header: &[u8]) -> u8
     ensures { result ≡ key_byte header.now }
 {
@@ -30,6 +32,7 @@ fn key_byte(header: &[u8]) -> u8
 }
 
 // Its target, which a header of one byte lacks.
+#[tactic(auto, using(crate::proofs::message::Laws::key_target_three, crate::proofs::message::Laws::key_target_one))]
 fn key_target(header: &[u8]) -> u8
     ensures { result ≡ key_target header.now }
 {
@@ -41,63 +44,56 @@ fn key_target(header: &[u8]) -> u8
 }
 
 // The selector: as many data bytes as the supplement says for the header, or all that there are.
-fn selector_of<'a>(s: &[u8], first: u8, target: u8, body: &'a [u8]) -> &'a [u8]
-    ensures { result.now ≡ take (length_for (catalogue s.now) first target) body.now }
+fn selector_of<'a>(supplement: &Supplement, first: u8, target: u8, body: &'a [u8]) -> &'a [u8]
+    ensures { result.now ≡ take (length_for (catalogue supplement.now.bytes.now) first target) body.now }
 {
-    let length = find_length(s, first, target) as usize;
-    if length < body.len() {
-        &body[..length]
-    } else {
-        body
-    }
+    let length = supplement.selector_length(first, target) as usize;
+    &body[..length.min(body.len())]
 }
 
 // The layout of a header and a selector; bytes that the selector lacks are zero.
-fn sought(s: &[u8], first: u8, target: u8, selector: &[u8]) -> LayoutFound
+fn sought(supplement: &Supplement, first: u8, target: u8, selector: &[u8]) -> Option<Layout>
     requires { length selector.now ≤ most_bytes }
-    ensures { result ≡ layout_found (record_with (layout_key first target selector.now) (records_of s.now)) }
+    ensures { result ≡ (catalogue supplement.now.bytes.now).layout (layout_key first target selector.now) }
 {
-    let size = selector.len() as u8;
     let key = [
-        LAYOUT,
+        Kind::Layout as u8,
         first,
         target,
-        size,
+        selector.len() as u8,
         byte_at(selector, 0),
         byte_at(selector, 1),
     ];
-    find_layout(s, &key)
+    supplement.layout(&key)
 }
 
-fn response_line(kind: u8) -> Line
-    ensures { result ≡ response_line kind }
+#[tactic(auto, unfolding(crate::specs::Report::response_line))]
+fn response_line(kind: ResponseKind) -> Line
+    ensures { result ≡ response_line (kind_number kind) }
 {
-    if kind == KIND_DATA {
-        Line::Unknown(DATA_RESPONSE)
+    if kind == ResponseKind::Data {
+        Line::Unknown(Reason::DataResponse)
     } else {
-        Line::Answered(kind)
+        Line::Answered(kind.number())
     }
 }
 
-// The report of a message under a supplement.
-pub(crate) fn message_report(s: &[u8], header: &[u8], body: &[u8], kind: u8) -> Report
-    requires { Good (records_of s.now) × (length body.now ≤ most_bytes) }
-    ensures { Shows result (lines_of (report_from (catalogue s.now) header.now body.now kind)) }
+// The lines of a frame's parts under a supplement.
+pub(crate) fn add_message(lines: &mut Lines, supplement: &Supplement, parts: Parts)
+    requires { lines.old ≡ [] }
+    ensures { lines.new ≡ lines_of (under supplement.now.bytes.now (handed parts.entry)) }
 {
+    let header = parts.header;
+    let body = parts.body;
     let first = key_byte(header);
     let target = key_target(header);
-    let selector = selector_of(s, first, target, body);
-    let layout = sought(s, first, target, selector);
-    let from = 8 * selector.len();
-    let to = 8 * body.len();
-    let group = with_group(empty(), s, body, from, to, layout);
-    let response = response_line(kind);
-    let mut held = group.held;
-    let count = group.count;
-    held[count] = Held { line: response };
-    Report {
-        held,
-        count: count + 1,
-        tally: tallied(group.tally, response),
-    }
+    let selector = selector_of(supplement, first, target, body);
+    let layout = sought(supplement, first, target, selector);
+    let window = Window {
+        bytes: body,
+        from: 8 * selector.len() as u8,
+        to: 8 * body.len() as u8,
+    };
+    add_group(lines, supplement, window, layout);
+    lines.push(response_line(parts.kind));
 }

@@ -1,93 +1,52 @@
 // What the lines of a report add up to, counted as they are made.
-ghost use Rattle.std.specs.Prelude.{◌≡◌, false, ◌||◌, [], ◌*◌, ◌≤◌};
+ghost use Rattle.std.specs.Prelude.{◌≡◌, ◌*◌, ◌≤◌};
 ghost use Rattle.report.specs.Rows.{number_row_size};
-ghost use Rattle.report.specs.Inner.{most_lines, weight, together, tally_of};
+ghost use Rattle.report.specs.Inner.{most_lines, weight, together};
 
 use crate::line::Line;
 use crate::row::{BARE_ROW, BYTE_ROW, CODE_ROW, NUMBER_ROW};
 
 // Whether a line flags, whether one is Unknown, and how long the rows of all are.
-#[derive(Clone, Copy)]
+#[derive(Clone, Copy, Default)]
 pub struct Tally {
     pub flagged: bool,
     pub unknown: bool,
     pub size: usize,
 }
 
-pub(crate) fn no_lines() -> Tally
-    ensures { result ≡ tally_of [] }
+// What one line adds.
+#[tactic(auto, unfolding(crate::specs::Rows::row, crate::specs::Rows::big_endian))]
+fn weight_of(line: Line) -> Tally
+    ensures { result ≡ weight line }
 {
+    let (flagged, unknown, size) = match line {
+        Line::Number { .. } => (false, false, NUMBER_ROW),
+        Line::State(_) | Line::Bits(_) | Line::Text(_) | Line::Digits(_) => (
+            false, false, CODE_ROW,
+        ),
+        Line::Invalid(_) => (true, false, CODE_ROW),
+        Line::Short => (true, false, BARE_ROW),
+        Line::Unknown(_) => (false, true, BYTE_ROW),
+        Line::Left(n) => (n != 0, false, BYTE_ROW),
+        Line::Answered(_) => (false, false, BYTE_ROW),
+    };
     Tally {
-        flagged: false,
-        unknown: false,
-        size: 0,
-    }
-}
-
-// A line that neither flags nor is Unknown.
-fn plain(size: usize) -> Tally
-    ensures { result ≡ record { flagged = false; unknown = false; size = size } }
-{
-    Tally {
-        flagged: false,
-        unknown: false,
+        flagged,
+        unknown,
         size,
     }
 }
 
-// What one line adds.
-fn weight_of(line: Line) -> Tally
-    ensures { result ≡ weight line }
-{
-    match line {
-        Line::Number {
-            value: _,
-            above: _,
-            divisor: _,
-        } => plain(NUMBER_ROW),
-        Line::State(_) => plain(CODE_ROW),
-        Line::Bits(_) => plain(CODE_ROW),
-        Line::Text(_) => plain(CODE_ROW),
-        Line::Digits(_) => plain(CODE_ROW),
-        Line::Invalid(_) => Tally {
-            flagged: true,
-            unknown: false,
-            size: CODE_ROW,
-        },
-        Line::Short => Tally {
-            flagged: true,
-            unknown: false,
-            size: BARE_ROW,
-        },
-        Line::Unknown(_) => Tally {
-            flagged: false,
-            unknown: true,
-            size: BYTE_ROW,
-        },
-        Line::Left(n) => Tally {
-            flagged: n != 0,
-            unknown: false,
-            size: BYTE_ROW,
-        },
-        Line::Answered(_) => plain(BYTE_ROW),
-    }
-}
-
-fn either(a: bool, b: bool) -> bool
-    ensures { result ≡ (a || b) }
-{
-    if a { true } else { b }
-}
-
 // The tally with one line more.
+#[tactic(auto, using(crate::proofs::row::Laws::row_most))]
 pub(crate) fn tallied(tally: Tally, line: Line) -> Tally
     requires { tally.size ≤ number_row_size * most_lines }
     ensures { result ≡ together tally (weight line) }
 {
     let w = weight_of(line);
     Tally {
-        flagged: either(tally.flagged, w.flagged),
-        unknown: either(tally.unknown, w.unknown),
+        flagged: tally.flagged || w.flagged,
+        unknown: tally.unknown || w.unknown,
         size: tally.size + w.size,
     }
 }

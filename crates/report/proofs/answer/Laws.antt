@@ -6,22 +6,23 @@ use Prim.Native.Nat.{ℕ, ◌+◌, ◌≤◌, ◌<◌}
 use native.Mathlib.Omega.{arith}
 use borrow.Author.Tests.{lt-ltb, le-ltb, eq-eqb, ne_eqb, eqb-true, eqb-false}
 use lib.Dec.{eqb, ltb}
+use Rattle.std.proofs.Common.{Err}
 use lib.ListN.{length, length-append}
-use Rattle.frame.specs.Frame.{Parts, Sizes, sizes, Handed}
-use Rattle.frame.specs.Response.{kind_number}
+use Rattle.frame.specs.Frame.{Parts}
 use Rattle.frame.specs.Refusal.{output_short, no_refusal, Outcome}
 use Rattle.frame.specs.Refusal as frame
 use Rattle.frame.proofs.bytes.Laws.{cases}
-use Rattle.frame.proofs.frame.Laws.{sizes_handed}
-use Rattle.catalogue.specs.Supplement.{check, Accepted}
-use Rattle.catalogue.specs.Lookup.{catalogue}
+use Rattle.catalogue.specs.declared.refusal.Fault.{Fault}
+use Rattle.catalogue.specs.Refusal as supplement
+use Rattle.catalogue.specs.Supplement.{Checked, check, checked_of, Accepted}
+use Rattle.catalogue.proofs.refusal.Laws.{number_some}
 use Rattle.report.specs.declared.line.Line.{Line}
 use Rattle.report.specs.declared.tally.Tally.{Tally}
 use Rattle.report.specs.Verdict.{verdict_of}
-use Rattle.report.specs.Report.{Report, report_from, lines_of, verdict}
+use Rattle.report.specs.Report.{Report, lines_of, verdict}
 use Rattle.report.specs.Rows.{byte_row_size, rows_of, verdict_row, report_bytes}
 use Rattle.report.specs.Answer.{Answer, refused, shown, fitted, under, answer_of, report_answer, out_after, sized}
-use Rattle.report.specs.Inner.{Cuts, cut_answer, sizes_answer, tally_of}
+use Rattle.report.specs.Inner.{tally_of}
 
 -- The rows of lines that are a report's, with their verdict.
 pub rows_told : (ls : List Line) (q : Report) → ls ≡ lines_of q → rows_of ls ++ verdict_row (verdict_of ls) ≡ report_bytes q
@@ -66,12 +67,12 @@ pub record Told (s : List ℕ) (o : Outcome Parts) (rows : List ℕ) : Type 0 wh
 
 -- The supplement, then the reading, then its rows.
 module _ (s : List ℕ) (o : Outcome Parts) (room : ℕ) where
-  supplement_refused : ((check s).refusal ≡ no_refusal → ⊥) → report_answer s o room ≡ refused (check s).refusal (check s).place
+  pub supplement_refused : ((check s).refusal ≡ no_refusal → ⊥) → report_answer s o room ≡ refused (check s).refusal (check s).place
   unfolding report_answer
   supplement_refused e =
       ap (λ (t : Bool). cond t (answer_of s o room) (refused (check s).refusal (check s).place)) (ne_eqb (check s).refusal no_refusal e)
 
-  accepted_supplement : Accepted s → report_answer s o room ≡ answer_of s o room
+  pub accepted_supplement : Accepted s → report_answer s o room ≡ answer_of s o room
   unfolding report_answer
   accepted_supplement a = rw (eq-eqb (check s).refusal no_refusal a)
 
@@ -87,35 +88,12 @@ module _ (s : List ℕ) (o : Outcome Parts) (room : ℕ) where
       read_told (frame.refused n) r g a = absurd (refused_shown g)
       read_told (frame.accepted p) r g a = record { supplement = a; parts = p; read = r; told = fitted_is room _ rows g }
 
--- The same for the sizes that a reader handed over.
-module _ (s run : List ℕ) (room : ℕ) where
-  pub sizes_supplement_refused :
-      (o : Outcome Sizes) → ((check s).refusal ≡ no_refusal → ⊥) → sizes_answer s run o room ≡ refused (check s).refusal (check s).place
-  unfolding sizes_answer
-  sizes_supplement_refused o e = rw (ne_eqb (check s).refusal no_refusal e)
-
-  pub sizes_supplement_accepted : (o : Outcome Sizes) → Accepted s → sizes_answer s run o room ≡ cut_answer s run o room
-  unfolding sizes_answer
-  sizes_supplement_accepted o a = rw (eq-eqb (check s).refusal no_refusal a)
-
--- A reader of any bus, whose parts lie within a run and the response behind it.
-module _ (run response : List ℕ) (o : Outcome Parts) (hands : (p : Parts) → o ≡ frame.accepted p → Handed run response p) where
-  -- Its sizes cut the parts out of the run ..
-  pub sizes_cut : (q : Outcome Sizes) → q ≡ sizes o → Cuts run q
-  sizes_cut (frame.refused n) e = tt
-  sizes_cut (frame.accepted z) e =
-      let h = sizes_handed run response o hands z (sym e) in (omega (arith, h.0), omega (arith, h.2))
-
-  -- .. and so the answer for the sizes is the answer for the parts.
-  cut_same : (s : List ℕ) (room : ℕ) (p : Outcome Parts) → o ≡ p → cut_answer s run (sizes p) room ≡ answer_of s p room
-  unfolding cut_answer answer_of
-  cut_same s room (frame.refused n) e = refl
-  cut_same s room (frame.accepted p) e =
-      let h = hands p e in
-      λ i. fitted room (report_bytes (report_from (catalogue s) (sym h.header i) (sym h.body i) (kind_number p.kind)))
-
-  pub sizes_answer_lem : (s : List ℕ) (room : ℕ) (q : Outcome Sizes) → q ≡ sizes o → sizes_answer s run q room ≡ report_answer s o room
-  unfolding sizes_answer report_answer
-  sizes_answer_lem s room q e =
-      ap (λ (a : Answer (List ℕ)). cond (eqb (check s).refusal no_refusal) a (refused (check s).refusal (check s).place))
-      (ap (λ (z : Outcome Sizes). cut_answer s run z room) e ∙ cut_same s room o refl)
+-- A supplement's fault is told first.
+pub fault_told :
+    (s : List ℕ) (o : Outcome Parts) (room : ℕ) (f : Fault)
+    → checked_of {A = Unit {0}} (Err f) ≡ check s
+    → refused (supplement.number_of f.refusal) f.place ≡ report_answer s o room
+fault_told s o room f e =
+    let number = ap (λ (c : Checked). c.refusal) e in
+    let place = ap (λ (c : Checked). c.place) e in
+    (λ i. refused (number i) (place i)) ∙ sym (supplement_refused s o room (λ n. number_some f.refusal (number ∙ n)))

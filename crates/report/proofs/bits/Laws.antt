@@ -5,27 +5,20 @@ use mathlib.Core.Bool.{Bool}
 use lib.Dec.{eqb, eqb→eq}
 use mathlib.Core.List.{List, ◌++◌}
 use Prim.Native.Nat.{ℕ, zero, suc, ◌+◌, ◌-◌, ◌*◌, ◌/◌, ◌%◌, ◌^◌, ◌≤◌, ◌<◌}
-use native.Mathlib.Nat.{zero-div, lt_of_lt_of_le}
+use native.Mathlib.Nat.{lt_of_lt_of_le, mul_assoc, pow-suc}
 use native.Mathlib.Numerals.{add-one}
+use Rattle.std.proofs.Common.{add-zero, add-suc}
+use Rattle.std.proofs.lemmas.Nat.{div-mul-add, mod-mul-add}
 use native.Mathlib.Omega.{arith}
-use lib.Bits.{bit_and, and_mask}
-use lib.ListN.{length, get_or, get_or-eq_default}
+use lib.ListN.{length, get_or}
 use lib.Pow.{pow_mono}
 use lib.Seq.{get_or-append-add}
 use Rattle.report.specs.Bits.{bit_at, cut}
 
--- A bit is 0 or 1; it is the byte moved down and masked; past the end it is 0.
+-- A bit is 0 or 1.
 pub bit_lt : (s : List ℕ) (i : ℕ) → bit_at s i < 2
 unfolding bit_at
 bit_lt s i = omega arith
-
-pub bit_masked : (s : List ℕ) (i : ℕ) → bit_and (get_or s (i / 8) 0 / 2 ^ (7 - i % 8)) 1 ≡ bit_at s i
-unfolding bit_at
-bit_masked s i = and_mask (get_or s (i / 8) 0 / 2 ^ (7 - i % 8)) 1
-
-pub bit_past : (s : List ℕ) (i : ℕ) → length s ≤ i / 8 → 0 ≡ bit_at s i
-unfolding bit_at
-bit_past s i h = rw (get_or-eq_default s 0 {n = i / 8} h, zero-div)
 
 -- So many bits make a number below that power of 2.
 pub cut_lt : (s : List ℕ) (at w : ℕ) → cut s at w < 2 ^ w
@@ -92,3 +85,42 @@ pub cut_byte :
 cut_byte s at w h l =
     let b = get_or s ((at + w) / 8) 0 in
     omega (arith, bits_more s at w 8 h (omega arith), eqb→eq (behind 0 b 8) b (below made 256 tt b l))
+
+-- One byte more, as the loop takes it: the bits are those from the first byte on.
+pub cut_next_byte :
+    (s : List ℕ) (f i : ℕ) {x b : ℕ}
+    → f ≤ i
+    → x ≡ cut s (8 * f) (8 * (i - f))
+    → b ≡ get_or s i 0
+    → b < 256
+    → x * 256 + b ≡ cut s (8 * f) (8 * (i + 1 - f))
+cut_next_byte s f i {x} {b} h e g l =
+    let w : ℕ = 8 * (i - f) in
+    let there : get_or s ((8 * f + w) / 8) 0 ≡ b = ap (λ (k : ℕ). get_or s k 0) (omega arith) ∙ sym g in
+    let more : cut s (8 * f) (w + 8) ≡ cut s (8 * f) (8 * (i + 1 - f)) = ap (cut s (8 * f)) (omega arith) in
+    omega (arith, e, there, cut_byte s (8 * f) w (omega arith) (omega (arith, there)), more)
+
+-- A number of bits in two parts: those at its front are above those behind them.
+pub cut_parts : (s : List ℕ) (at a b : ℕ) → cut s at (a + b) ≡ cut s at a * 2 ^ b + cut s (at + a) b
+unfolding cut
+cut_parts s at a zero = ap (cut s at) (add-zero a) ∙ omega arith
+cut_parts s at a (suc b) =
+    let there : bit_at s (at + (a + b)) ≡ bit_at s (at + a + b) = ap (bit_at s) (omega arith) in
+    let power : cut s at a * 2 ^ suc b ≡ cut s at a * 2 ^ b * 2 = ap (λ (m : ℕ). cut s at a * m) (pow-suc 2 b) ∙ sym (mul_assoc (cut s at a) (2 ^ b) 2) in
+    ap (cut s at) (add-suc a b) ∙ omega (arith, cut_parts s at a b, there, power)
+
+-- What is left without the bits behind and before it.
+pub cut_middle :
+    (s : List ℕ) (at a w b : ℕ) {n x : ℕ}
+    → n ≡ a + w + b
+    → x ≡ cut s at n
+    → x / 2 ^ b % 2 ^ w ≡ cut s (at + a) w
+cut_middle s at a w b e f =
+    let whole = f ∙ ap (cut s at) e ∙ cut_parts s at (a + w) b in
+    let front = ap (λ (y : ℕ). y / 2 ^ b) whole ∙ div-mul-add (cut s at (a + w)) (2 ^ b) _ (cut_lt s (at + (a + w)) b) in
+    ap (λ (y : ℕ). y % 2 ^ w) (front ∙ cut_parts s at a w) ∙ mod-mul-add (cut s at a) (2 ^ w) _ (cut_lt s (at + a) w)
+
+pub width_size : (w : ℕ) → w ≤ 32 → 1 * 2 ^ w % 2 ^ 64 ≡ 2 ^ w
+width_size w h = let p : 2 ^ w ≤ 2 ^ 32 = pow_mono h in omega arith
+
+pub ruleset cuts = (cut_next_byte, cut_middle, width_size)

@@ -3,7 +3,7 @@ use mathlib.Core.Path.{◌≡◌, refl, sym, ap, subst}
 use mathlib.Core.Logic.{◌⊎◌, inl, inr, ⊎_elim}
 use mathlib.Core.Bool.{true}
 use mathlib.Core.List.{List, [], ◌∷◌, map}
-use mathlib.Core.Option.{Option, none, some}
+use Rattle.std.proofs.Common.{Option, None, Some}
 use Prim.Native.Nat.{ℕ}
 use native.Mathlib.Omega.{arith}
 use lib.ListN.{length}
@@ -56,11 +56,11 @@ past_lost : Past ≡ Lost → ⊥
 past_lost e = let z : ◌≡◌ {A = ℕ} 0 1 = cc in omega arith
 
 -- Where items lie follows from the PRNs' rows alone.
-module _ (rows rows' : ℕ → Option PrnRow) (w : (prn : ℕ) (row : PrnRow) → rows prn ≡ some row → rows' prn ≡ some row) (to : ℕ) where
-  at_same : (o q : Option PrnRow) → ((row : PrnRow) → o ≡ some row → q ≡ some row) → (at : ℕ) → SameSpot (spot_at o to at) (spot_at q to at)
+module _ (rows rows' : ℕ → Option PrnRow) (w : (prn : ℕ) (row : PrnRow) → rows prn ≡ Some row → rows' prn ≡ Some row) (to : ℕ) where
+  at_same : (o q : Option PrnRow) → ((row : PrnRow) → o ≡ Some row → q ≡ Some row) → (at : ℕ) → SameSpot (spot_at o to at) (spot_at q to at)
   unfolding spot_at
-  at_same none q u at = inr refl
-  at_same (some row) q u at = inl (ap (λ (p : Option PrnRow). spot_at p to at) (sym (u row refl)))
+  at_same None q u at = inr refl
+  at_same (Some row) q u at = inl (ap (λ (p : Option PrnRow). spot_at p to at) (sym (u row refl)))
 
   spot_same : (p q : Place) → SamePlace p q → (prn : ℕ) → SameSpot (spot_of rows to p prn) (spot_of rows' to q prn)
   unfolding spot_of
@@ -99,16 +99,16 @@ remainder_kept to p q (inr e) = inr (ap (λ (r : Place). is_unknown (remainder_a
 -- The line of an item follows from its spot and its SLOT.
 slot_kept :
     (o q : Option SlotRow)
-    → ((r : SlotRow) → o ≡ some r → q ≡ some r)
+    → ((r : SlotRow) → o ≡ Some r → q ≡ Some r)
     → (row : PrnRow) (bytes : List ℕ) (at : ℕ)
     → Kept (slot_line o row bytes at) (slot_line q row bytes at)
 unfolding slot_line
-slot_kept none q u row bytes at = inr refl
-slot_kept (some s) q u row bytes at = inl (ap (λ (p : Option SlotRow). slot_line p row bytes at) (sym (u s refl)))
+slot_kept None q u row bytes at = inr refl
+slot_kept (Some s) q u row bytes at = inl (ap (λ (p : Option SlotRow). slot_line p row bytes at) (sym (u s refl)))
 
 module _
     (slots slots' : ℕ → ℕ → ℕ → Option SlotRow)
-    (w : (f w n : ℕ) (row : SlotRow) → slots f w n ≡ some row → slots' f w n ≡ some row)
+    (w : (f w n : ℕ) (row : SlotRow) → slots f w n ≡ Some row → slots' f w n ≡ Some row)
     (bytes : List ℕ)
   where
     lost_kept : (x y : Spot) → behind x ≡ Lost → Kept (item_line slots bytes x) (item_line slots' bytes y)
@@ -135,11 +135,11 @@ module _
 pub record GroupKept (g h : Group) : Type 0 where
   pub remainder : Kept g.remainder h.remainder
   pub items :
-      (AllWith Kept g.items h.items × (g.layout ≡ none → ⊥))
-      ⊎ ((g.items ≡ []) × (g.layout ≡ none) × (is_unknown g.remainder ≡ true))
+      (AllWith Kept g.items h.items × (g.layout ≡ None → ⊥))
+      ⊎ ((g.items ≡ []) × (g.layout ≡ None) × (is_unknown g.remainder ≡ true))
 
 -- Without a layout there is no item line, whatever part the group is read from.
-pub group_gone : (c d : Catalogue) (q : Option LayoutRow) (p p' : Part) → GroupKept (group_of c none p) (group_of d q p')
+pub group_gone : (c d : Catalogue) (q : Option LayoutRow) (p p' : Part) → GroupKept (group_of c None p) (group_of d q p')
 unfolding group_of
 group_gone c d q p p' = record { remainder = inr refl; items = inr (refl, refl, refl) }
 
@@ -147,16 +147,16 @@ pub group_kept :
     (c d : Catalogue)
     → Within c d
     → (o q : Option LayoutRow)
-    → ((l : LayoutRow) → o ≡ some l → q ≡ some l)
+    → ((l : LayoutRow) → o ≡ Some l → q ≡ Some l)
     → (p : Part)
     → GroupKept (group_of c o p) (group_of d q p)
 unfolding group_of
-group_kept c d w none q u p = group_gone c d q p p
-group_kept c d w (some l) q u p =
+group_kept c d w None q u p = group_gone c d q p p
+group_kept c d w (Some l) q u p =
     let same = spots_same c.prn d.prn w.prn p.to (p.prns l) (Bit p.from) (Bit p.from) (inl refl) in
     let after = after_same (spots_in c p l) (spots_in d p l) same (Bit p.from) (Bit p.from) (inl refl) in
     let lines = all_map SameSpot Kept _ _ (item_kept c.slot d.slot w.slot p.bytes) (spots_in c p l) (spots_in d p l) same in
-    subst (λ (r : Option LayoutRow). GroupKept (group_of c (some l) p) (group_of d r p)) (sym (u l refl))
+    subst (λ (r : Option LayoutRow). GroupKept (group_of c (Some l) p) (group_of d r p)) (sym (u l refl))
     (record {
       remainder = remainder_kept p.to _ _ after;
       items = inl (lines, λ e. let z : ◌≡◌ {A = ℕ} 0 1 = cc in omega arith);
@@ -166,7 +166,7 @@ group_kept c d w (some l) q u p =
 pub groups_gone :
     (c d : Catalogue) (q : Option LayoutRow) (ps qs : List Part)
     → length ps ≡ length qs
-    → AllWith GroupKept (map (group_of c none) ps) (map (group_of d q) qs)
+    → AllWith GroupKept (map (group_of c None) ps) (map (group_of d q) qs)
 groups_gone c d q [] [] e = tt
 groups_gone c d q [] (p' ∷ qs) e = absurd (omega arith)
 groups_gone c d q (p ∷ ps) [] e = absurd (omega arith)
@@ -176,7 +176,7 @@ pub groups_kept :
     (c d : Catalogue)
     → Within c d
     → (o q : Option LayoutRow)
-    → ((l : LayoutRow) → o ≡ some l → q ≡ some l)
+    → ((l : LayoutRow) → o ≡ Some l → q ≡ Some l)
     → (ps : List Part)
     → AllWith GroupKept (map (group_of c o) ps) (map (group_of d q) ps)
 groups_kept c d w o q u [] = tt

@@ -1,7 +1,7 @@
 -- Laws of an item's line: where it is a Number, it holds a fraction.
 use mathlib.Core.Path.{◌≡◌, refl}
 use mathlib.Core.List.{List, [], ◌∷◌, ◌++◌, map, Memᴰ}
-use mathlib.Core.Option.{Option, none, some}
+use Rattle.std.proofs.Common.{Option, None, Some}
 use Prim.Native.Nat.{ℕ}
 use Rattle.frame.specs.Bytes.{Bytes}
 use Rattle.catalogue.specs.declared.rows.PrnRow.{PrnRow}
@@ -20,7 +20,7 @@ use Rattle.report.proofs.scaling.Laws.{Scales, form_holds}
 
 -- Every SLOT that is found has the width that was sought, and fields within their ranges and sizes.
 abbrev pub AllScale : (ℕ → ℕ → ℕ → Option SlotRow) → Type 0
-AllScale slots = (f w n : ℕ) (slot : SlotRow) → slots f w n ≡ some slot → Scales w slot
+AllScale slots = (f w n : ℕ) (slot : SlotRow) → slots f w n ≡ Some slot → Scales w slot
 
 -- So it is under good records of bytes.
 pub good_scale :
@@ -34,12 +34,12 @@ good_scale rs g b f w n slot e =
 
 slot_holds :
     (o : Option SlotRow) (row : PrnRow)
-    → ((slot : SlotRow) → o ≡ some slot → Scales row.width slot)
+    → ((slot : SlotRow) → o ≡ Some slot → Scales row.width slot)
     → (bytes : List ℕ) (at : ℕ)
     → HoldsFraction (slot_line o row bytes at)
 unfolding slot_line
-slot_holds none row d bytes at = tt
-slot_holds (some slot) row d bytes at =
+slot_holds None row d bytes at = tt
+slot_holds (Some slot) row d bytes at =
     form_holds row.form row.width slot _ (d slot refl) (cut_lt bytes at row.width)
 
 pub item_holds :

@@ -1,6 +1,6 @@
 -- Every Number among the lines of a report is a fraction.
 use mathlib.Core.List.{List, [], ◌∷◌, ◌++◌, map}
-use mathlib.Core.Option.{Option, none, some}
+use Rattle.std.proofs.Common.{Option, None, Some}
 use Prim.Native.Nat.{ℕ}
 use lib.Dec.{eqb}
 use Rattle.frame.specs.Bytes.{Bytes}
@@ -30,11 +30,11 @@ response_holds kind = cases (eqb kind kind_data) (λ t. rw t tt) (λ f. rw f tt)
 module _ (c : Catalogue) (d : AllScale c.slot) where
   group_holds : (o : Option LayoutRow) (p : Part) → AllHold ((group_of c o p).items ++ (group_of c o p).remainder ∷ [])
   unfolding group_of AllHold
-  group_holds none p = (tt, tt)
-  group_holds (some l) p =
-      let rest : Line = (group_of c (some l) p).remainder in
+  group_holds None p = (tt, tt)
+  group_holds (Some l) p =
+      let rest : Line = (group_of c (Some l) p).remainder in
       let last : AllHold (rest ∷ []) = (remainder_holds p.to _, tt) in
-      all_append (group_of c (some l) p).items (rest ∷ []) (all_items c.slot d p.bytes (spots_in c p l)) last
+      all_append (group_of c (Some l) p).items (rest ∷ []) (all_items c.slot d p.bytes (spots_in c p l)) last
 
   groups_hold : (o : Option LayoutRow) (ps : List Part) → AllHold (group_lines (map (group_of c o) ps))
   unfolding group_lines AllHold

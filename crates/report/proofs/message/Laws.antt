@@ -1,11 +1,13 @@
 -- Laws of a message: its key, its lines, and how many they are.
-use mathlib.Core.Path.{◌≡◌, refl, ap, ◌∙◌}
+use mathlib.Core.Path.{◌≡◌, refl, sym, ap, ◌∙◌}
 use mathlib.Core.List.{List, [], ◌∷◌, ◌++◌, append-nil}
-use mathlib.Core.Option.{Option, none, some}
+use Rattle.std.proofs.Common.{Option, None, Some}
 use Prim.Native.Nat.{ℕ, ◌+◌, ◌*◌, ◌≤◌, ◌%◌}
 use native.Mathlib.Omega.{arith}
 use borrow.Author.Tests.{eq-eqb, ne_eqb}
-use lib.ListN.{length, take, get_or, length-take, length-append, length-map}
+use lib.Bits.{and_mask}
+use Rattle.std.proofs.Common.{bit_and}
+use lib.ListN.{length, get_or, length-append, length-map}
 use Rattle.frame.specs.Header.{three_byte_form, header_size}
 use Rattle.frame.proofs.header.Laws.{three_exactly}
 use Rattle.catalogue.specs.Record.{LayoutRow}
@@ -26,18 +28,27 @@ pub key_of_one : (h : List ℕ) → (header_size h ≡ three_byte_form → ⊥) 
 unfolding key_byte key_target
 key_of_one h e = (rw (three_exactly h, ne_eqb (header_size h) three_byte_form e), rw (three_exactly h, ne_eqb (header_size h) three_byte_form e))
 
--- The selector is within the data.
-pub selector_within : (n : ℕ) (body selector : List ℕ) → selector ≡ take n body → length selector ≤ length body
-selector_within n body selector e = omega (arith, ap length e, length-take n body)
+-- As the code makes it.
+pub key_byte_three : (h : List ℕ) {b : ℕ} → b ≡ get_or h 0 0 → header_size h ≡ three_byte_form → bit_and b 31 ≡ key_byte h
+key_byte_three h {b} e f = and_mask b 5 ∙ ap (λ (c : ℕ). c % 32) e ∙ sym (key_of_three h f).0
+
+pub key_byte_one : (h : List ℕ) → (header_size h ≡ three_byte_form → ⊥) → get_or h 0 0 ≡ key_byte h
+key_byte_one h f = sym (key_of_one h f).0
+
+pub key_target_three : (h : List ℕ) → header_size h ≡ three_byte_form → get_or h 1 0 ≡ key_target h
+key_target_three h f = sym (key_of_three h f).1
+
+pub key_target_one : (h : List ℕ) → (header_size h ≡ three_byte_form → ⊥) → 0 ≡ key_target h
+key_target_one h f = sym (key_of_one h f).1
 
 -- A group has as many items as its layout has PRNs.
 pub items_most :
     (c : Catalogue) (o : Option LayoutRow) (p : Part) (n : ℕ)
-    → ((l : LayoutRow) → o ≡ some l → length (p.prns l) ≤ n)
+    → ((l : LayoutRow) → o ≡ Some l → length (p.prns l) ≤ n)
     → length (group_of c o p).items ≤ n
 unfolding group_of
-items_most c none p n h = omega arith
-items_most c (some l) p n h =
+items_most c None p n h = omega arith
+items_most c (Some l) p n h =
     omega (
       arith,
       h l refl,

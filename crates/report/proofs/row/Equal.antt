@@ -10,14 +10,14 @@ use lib.Seq.{take_at, drop_at}
 use lib.IntN.{ℤ, pos, negsuc}
 use lib.Ieee.{Float}
 use mir.Syntax.{w64}
-use mir.Val.{to_z, of_z}
+use mir.Val.{to_z}
 use Rattle.report.specs.declared.line.Line.{Line}
 use Rattle.report.specs.declared.line.Line.TheVariants.{Number, State, Bits, Text, Digits, Invalid, Short, Unknown, Left, Answered}
 use Rattle.report.specs.Scaling.{quotient}
 use Rattle.report.specs.Fraction.{IsFraction}
 use Rattle.report.specs.Inner.{HoldsFraction}
 use Rattle.report.specs.Rows.{whole_bytes, divisor_bytes, big_endian, twos_complement, number_body, row}
-use Rattle.report.proofs.row.Laws.{whole_reread, double_part, front_parts, double_size, front_size}
+use Rattle.report.proofs.row.Laws.{whole_reread, bits_told, double_part, front_parts, double_size, front_size}
 
 -- A list cut after as many elements on both sides.
 cut_same : (a c : List ℕ) {b d : List ℕ} → length a ≡ length c → a ++ b ≡ c ++ d → (a ≡ c) × (b ≡ d)
@@ -47,12 +47,8 @@ bits_small : {x : Float} {n : ℤ} {d : ℕ} → IsFraction x n d → twos_compl
 bits_small {n = pos k} f = omega (arith, f.size)
 bits_small {n = negsuc k} f = omega arith
 
-bits_told : {x : Float} {n : ℤ} {d : ℕ} → IsFraction x n d → n ≡ to_z w64 (twos_complement n)
-bits_told {n = n} f = sym (whole_reread f) ∙ ap (to_z w64) (bits_are n)
-  where
-    bits_are : (z : ℤ) → of_z w64 z ≡ twos_complement z
-    bits_are (pos k) = refl
-    bits_are (negsuc k) = refl
+whole_told : {x : Float} {n : ℤ} {d : ℕ} → IsFraction x n d → n ≡ to_z w64 (twos_complement n)
+whole_told {n = n} f = sym (whole_reread f) ∙ ap (to_z w64) (bits_told n)
 
 -- Equal rows of Numbers are those of one whole number and one divisor, and so of one double.
 numbers_same :
@@ -68,7 +64,7 @@ numbers_same x y n m d e f g same =
     let inner = cut_same (double_part x) (double_part y) (double_size x ∙ sym (double_size y)) outer.0 in
     let divisor : d ≡ e = number_same divisor_bytes d e (omega (arith, f.most)) (omega (arith, g.most)) outer.1 in
     let bits : twos_complement n ≡ twos_complement m = number_same whole_bytes _ _ (bits_small f) (bits_small g) inner.1 in
-    let whole : n ≡ m = bits_told f ∙ ap (to_z w64) bits ∙ sym (bits_told g) in
+    let whole : n ≡ m = whole_told f ∙ ap (to_z w64) bits ∙ sym (whole_told g) in
     let value : x ≡ y = f.divided ∙ (λ i. quotient (whole i) (divisor i)) ∙ sym g.divided in
     λ i. Number (value i) (whole i) (divisor i)
 

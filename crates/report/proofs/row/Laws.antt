@@ -1,95 +1,77 @@
--- Laws of a row: bytes written from the last to the first, and how long a row is.
-use mathlib.Core.Path.{◌≡◌, refl, sym, ap, ◌∙◌, subst}
-use mathlib.Core.Bool.{true, false, true≢false}
-use mathlib.Core.List.{List, [], ◌∷◌, ◌++◌}
+-- Laws of a row: the bytes of its numbers, its parts placed one behind the other, and how long it is.
+use mathlib.Core.Path.{◌≡◌, refl, sym, ap, ◌∙◌}
+use mathlib.Core.List.{List, [], ◌∷◌, ◌++◌, append_assoc, append-nil}
 use Prim.Native.Nat.{ℕ, zero, suc, ◌+◌, ◌-◌, ◌/◌, ◌%◌, ◌^◌, ◌≤◌, ◌<◌}
 use native.Mathlib.Omega.{arith}
-use native.Mathlib.Nat.{pow-suc, div-one, div-div-eq-div-mul}
-use borrow.Author.Tests.{le-leb, le-ltb}
-use lib.Dec.{T}
-use lib.ListN.{length, set, length-append}
+use native.Mathlib.Nat.{div-one, zero-add}
+use borrow.Rule.Slice.PartMut.{put_mid}
+use lib.ListN.{length, take, drop, set, length-append, length-take, length-drop, drop_of_length-le}
+use lib.Seq.{take_all, drop-drop}
 use lib.IntN.{ℤ, pos, negsuc, nat_abs, ◌-ℤ◌}
-use lib.Signed.{mag, non_neg, le_z}
+use lib.Signed.{mag, le_z}
 use mir.Syntax.{w64}
 use mir.Val.{to_z, of_z}
 use mir.ValLaws.{to_z-of_z}
 use lib.Ieee.{Float, binary64, to_bits}
+use Rattle.std.specs.Int.{bytes_high_first}
+use Rattle.std.proofs.lemmas.Slice.{put_mid-paste}
+use mathlib.Core.Bool.{false, true≢false}
+use borrow.Author.Tests.{le-leb, le-ltb}
 use Rattle.frame.specs.Bytes.{placed}
-use Rattle.frame.proofs.bytes.Placed.{stored, stored_before, placed_none, length_placed, joined}
+use Rattle.frame.proofs.bytes.Placed.{pasted, stored, joined}
 use Rattle.report.specs.declared.line.Line.{Line}
 use Rattle.report.specs.declared.line.Line.TheVariants.{Number, State, Bits, Text, Digits, Invalid, Short, Unknown, Left, Answered}
 use Rattle.report.specs.Rows.{double_bytes, whole_bytes, divisor_bytes, code_bytes, number_row_size, big_endian, twos_complement, number_body, row}
 use Rattle.report.specs.Fraction.{IsFraction}
-use Rattle.report.specs.Inner.{HoldsFraction}
 
 pub length_big_endian : (n x : ℕ) → length (big_endian n x) ≡ n
 unfolding big_endian
 length_big_endian zero x = refl
 length_big_endian (suc n) x = ap suc (length_big_endian n x)
 
--- A number whose last bytes are written: how many are left, and what is left of the number.
-pub record Counted (x n at : ℕ) (out₀ : List ℕ) (out : List ℕ) (left rest : ℕ) : Type 0 where
-  pub bounded : left ≤ n
-  pub bytes : out ≡ placed out₀ (at + left) (big_endian (n - left) x)
-  pub after : rest ≡ x / 256 ^ (n - left)
+-- The library's bytes of a number, the most significant first, are those of the definition.
+pub bytes_are : (n x : ℕ) → bytes_high_first n x ≡ big_endian n x
+unfolding big_endian
+bytes_are zero x = refl
+bytes_are (suc zero) x = ap (λ (y : ℕ). y % 256 ∷ []) (sym (div-one x))
+bytes_are (suc (suc n)) x = ap (λ (s : List ℕ). x / 256 ^ suc n % 256 ∷ s) (bytes_are (suc n) x)
 
-module _ (x n at : ℕ) (out₀ : List ℕ) (fits : at + n ≤ length out₀) where
-  pub none_counted : Counted x n at out₀ out₀ n x
-  unfolding big_endian
-  none_counted =
-      let none : n - n ≡ 0 = omega arith in
-      record {
-        bounded = omega arith;
-        bytes = placed_none out₀ (at + n) ∙ ap (λ (m : ℕ). placed out₀ (at + n) (big_endian m x)) (sym none);
-        after = sym (div-one x) ∙ ap (λ (m : ℕ). x / 256 ^ m) (sym none);
-      }
+-- A run copied into a part of memory is placed there.
+pub copied : (out : List ℕ) (at k : ℕ) (u : List ℕ) {o : List ℕ} → o ≡ u → length u ≡ k → put_mid at k out o ≡ placed out at u
+copied out at k u {o} e h = put_mid-paste at k out o u (length u) e h refl ∙ pasted out at u
 
-  pub one_less :
-      (out : List ℕ) (left rest : ℕ)
-      → 0 < left
-      → Counted x n at out₀ out left rest
-      → Counted x n at out₀ (set out (at + (left - 1)) (rest % 256)) (left - 1) (rest / 256)
-  unfolding big_endian
-  one_less out left rest some k =
-      let more : n - (left - 1) ≡ suc (n - left) = omega (arith, k.bounded) in
-      let place : at + left ≡ suc (at + (left - 1)) = omega arith in
-      record {
-        bounded = omega (arith, k.bounded);
-        bytes =
-            (λ i. set ((k.bytes ∙ ap (λ (m : ℕ). placed out₀ m (big_endian (n - left) x)) place) i) (at + (left - 1)) (k.after i % 256))
-            ∙ stored_before out₀ (at + (left - 1)) (x / 256 ^ (n - left) % 256) (big_endian (n - left) x)
-            (omega (arith, k.bounded, length_big_endian (n - left) x))
-            ∙ ap (λ (m : ℕ). placed out₀ (at + (left - 1)) (big_endian m x)) (sym more);
-        after =
-            ap (λ (m : ℕ). m / 256) k.after
-            ∙ div-div-eq-div-mul x (256 ^ (n - left)) 256
-            ∙ ap (λ (m : ℕ). x / m) (sym (pow-suc 256 (n - left)))
-            ∙ ap (λ (m : ℕ). x / 256 ^ m) (sym more);
-      }
+-- Memory from a place on, lent to a call that places a run at its start.
+pub lent_length : (out : List ℕ) (at : ℕ) → length (take (length out - at) (drop at out)) ≡ length out - at
+lent_length out at = simp (length-take, length-drop) (omega arith)
 
-  pub length_counted : (out : List ℕ) (left rest : ℕ) → Counted x n at out₀ out left rest → length out ≡ length out₀
-  length_counted out left rest k =
-      ap length k.bytes ∙ length_placed out₀ (at + left) (big_endian (n - left) x) (omega (arith, k.bounded, length_big_endian (n - left) x))
+pub lent_placed :
+    (out : List ℕ) (at : ℕ) (u : List ℕ) {o : List ℕ}
+    → o ≡ placed (take (length out - at) (drop at out)) 0 u
+    → at + length u ≤ length out
+    → put_mid at (length out - at) out o ≡ placed out at u
+unfolding placed
+lent_placed out at u {o} e fits =
+    let rest : List ℕ = drop at out in
+    let size : length rest ≡ length out - at = length-drop at out in
+    let whole : take (length out - at) rest ≡ rest = take_all (length out - at) rest (omega (arith, size)) in
+    let past : drop (length out - at) rest ≡ [] = drop_of_length-le rest (omega (arith, size)) in
+    let behind : drop (0 + length u) (take (length out - at) rest) ≡ drop (at + length u) out =
+    (λ i. drop (zero-add (length u) i) (whole i)) ∙ drop-drop (length u) at out in
+    (λ i. take at out ++ (e i ++ past i))
+    ∙ ap (λ (v : List ℕ). take at out ++ v) (append-nil _)
+    ∙ ap (λ (v : List ℕ). take at out ++ (u ++ v)) behind
+    ∙ sym (append_assoc (take at out) u (drop (at + length u) out))
 
-  pub all_counted : (out : List ℕ) (left rest : ℕ) → left ≤ 0 → Counted x n at out₀ out left rest → out ≡ placed out₀ at (big_endian n x)
-  all_counted out left rest none k =
-      let place : at + left ≡ at = omega arith in
-      let size : n - left ≡ n = omega arith in
-      k.bytes ∙ (λ i. placed out₀ (place i) (big_endian (size i) x))
-
--- A body placed right behind its kind makes a row.
+-- A body copied right behind its kind.
 pub kind_behind :
-    (out : List ℕ) (at kind : ℕ) (body : List ℕ) {o : List ℕ}
-    → o ≡ placed (set out at kind) (at + 1) body
-    → at < length out
-    → o ≡ placed out at (kind ∷ body)
-kind_behind out at kind body e fits = joined out at (kind ∷ []) body (stored out at kind fits) e refl (omega arith)
+    (out : List ℕ) (kind n : ℕ) (body : List ℕ)
+    → n ≡ length body
+    → 0 < length out
+    → put_mid 1 n (set out 0 kind) body ≡ placed out 0 (kind ∷ body)
+kind_behind out kind n body e fits =
+    joined out 0 (kind ∷ []) body (stored out 0 kind fits) (copied (set out 0 kind) 1 n body refl (sym e)) refl (omega arith)
 
--- The 64 bits of a number from zero on are the number; those of one below zero are told from the number that mirrors it, -1 - n.
-pub upright : (z : ℤ) → le_z (pos 0) z ≡ true → T (non_neg z) × (nat_abs z ≡ twos_complement z)
-upright (pos n) e = (tt, refl)
-upright (negsuc n) e = absurd (true≢false (sym e))
-
+-- The 64 bits of a number below zero are told from the number that mirrors it, -1 - n.
 pub mirrored : (z : ℤ) → le_z (pos 0) z ≡ false → (negsuc 0 -ℤ z ≡ pos (mag z)) × (twos_complement z ≡ 2 ^ 64 - 1 - mag z)
 mirrored (pos n) e = absurd (true≢false (sym (le-leb 0 n (omega arith)) ∙ e))
 mirrored (negsuc n) e = (rw (le-ltb (suc n) 1 (omega arith)) (ap pos (omega arith)), omega arith)
@@ -101,6 +83,14 @@ mag_abs (negsuc n) = omega arith
 
 pub whole_reread : {x : Float} {n : ℤ} {d : ℕ} → IsFraction x n d → to_z w64 (of_z w64 n) ≡ n
 whole_reread {n = n} f = to_z-of_z w64 n (record { sfits = omega (arith, mag_abs n, f.size) })
+
+-- The 64 bits of a signed number.
+pub bits_told : (z : ℤ) → of_z w64 z ≡ twos_complement z
+bits_told (pos n) = refl
+bits_told (negsuc n) = refl
+
+pub whole_bits : {x : Float} {n : ℤ} {d : ℕ} → IsFraction x n d → of_z w64 (to_z w64 (of_z w64 n)) ≡ twos_complement n
+whole_bits {n = n} f = ap (of_z w64) (whole_reread f) ∙ bits_told n
 
 -- The first part of a Number's body, and the first two.
 abbrev pub double_part : Float → List ℕ
@@ -164,19 +154,3 @@ row_most Short = omega arith
 row_most (Unknown n) = omega arith
 row_most (Left n) = omega arith
 row_most (Answered n) = omega arith
-
--- A line that is known by an equation: what its row asks, and what is placed.
-pub asked :
-    (out : List ℕ) (at : ℕ) {l k : Line}
-    → l ≡ k
-    → HoldsFraction l × (at + length (row l) ≤ length out)
-    → HoldsFraction k × (at + length (row k) ≤ length out)
-asked out at e h = subst (λ (k : Line). HoldsFraction k × (at + length (row k) ≤ length out)) e h
-
-pub put_told :
-    (out : List ℕ) (at : ℕ) {l k : Line} {o : List ℕ} {r : ℕ}
-    → l ≡ k
-    → (o ≡ placed out at (row k)) × (r ≡ at + length (row k))
-    → (o ≡ placed out at (row l)) × (r ≡ at + length (row l))
-put_told out at {o = o} {r = r} e h =
-    subst (λ (l : Line). (o ≡ placed out at (row l)) × (r ≡ at + length (row l))) (sym e) h

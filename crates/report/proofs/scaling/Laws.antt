@@ -1,21 +1,22 @@
 -- Laws of patterns, of the number above the line, of limits and of digits.
 use mathlib.Core.Path.{◌≡◌, refl, sym, ap, ◌∙◌, subst}
+use mathlib.Core.Logic.{◌⊎◌, inl, inr}
 use mathlib.Core.Bool.{Bool, true, false, cond, ◌&&◌}
 use Prim.Native.Nat.{ℕ, zero, suc, ◌+◌, ◌-◌, ◌*◌, ◌/◌, ◌%◌, ◌^◌, ◌≤◌, ◌<◌}
 use native.Mathlib.Nat.{le_of_lt, le_trans, mul-le-mul}
 use native.Mathlib.Omega.{arith}
-use borrow.Author.Tests.{eq-eqb, ne_eqb, lt-ltb, le-ltb, le-leb, lt-leb, ltb-true, ltb-false}
+use borrow.Author.Tests.{lt-ltb, le-ltb, le-leb, lt-leb, ltb-true, ltb-false}
 use lib.Dec.{T, eqb, leb, ltb, le→leb, lt→ltb}
 use lib.Ieee.{binary64, in_float}
-use lib.IntN.{ℤ, pos, negsuc, neg_ℤ, sub_ℕ, ◌+ℤ◌, ◌-ℤ◌, ◌*ℤ◌}
+use lib.IntN.{ℤ, pos, negsuc, neg_ℤ, sub_ℕ, ◌+ℤ◌, ◌*ℤ◌}
 use lib.Pow.{pow_mono}
 use lib.Signed.{mag, nat_abs-le}
-use mir.Syntax.{w64}
-use mir.Val.{to_z, of_z}
+use mir.Syntax.{w32, w64}
+use mir.Val.{SFits, to_z, of_z}
 use mir.ValLaws.{to_z_pos, to_z-of_z}
 use Rattle.catalogue.specs.declared.rows.SlotRow.{SlotRow}
 use Rattle.catalogue.proofs.rows.Laws.{SlotRanges, SlotSizes}
-use Rattle.catalogue.specs.Rows.{snm, sed, bmp, asc, bcd, bmm, in_order}
+use Rattle.catalogue.specs.Rows.{snm, sed, bmp, asc, bcd, bmm}
 use Rattle.frame.proofs.bytes.Laws.{cases}
 use Rattle.report.specs.declared.line.Line.TheVariants.{State, Bits, Text, Digits, Invalid, Unknown}
 use Rattle.report.specs.Line.{not_shown_reason, no_state_reason, too_wide_reason}
@@ -26,14 +27,13 @@ use Rattle.report.specs.Fraction.{most_above}
 use Rattle.report.specs.Inner.{HoldsFraction}
 
 -- A number below 2 ^ 63, known to be another, is read back from its bits as that.
-pub reread : {y z : ℤ} → y ≡ z → mag z < 2 ^ 63 → to_z w64 (of_z w64 y) ≡ z
+reread : {y z : ℤ} → y ≡ z → mag z < 2 ^ 63 → to_z w64 (of_z w64 y) ≡ z
 reread {y} {z} e h = ap (λ (x : ℤ). to_z w64 (of_z w64 x)) e ∙ to_z-of_z w64 z (record { sfits = h })
 
-pub reread_pos : (n : ℕ) → n < 2 ^ 63 → to_z w64 n ≡ pos n
-reread_pos n h = to_z_pos w64 n h
+pub ruleset reads = (to_z-of_z, to_z_pos)
 
 -- The same for the result of a call, whose own range is known.
-pub result_is : {y z : ℤ} → mag y < 2 ^ 63 → y ≡ z → to_z w64 (of_z w64 y) ≡ z
+result_is : {y z : ℤ} → mag y < 2 ^ 63 → y ≡ z → to_z w64 (of_z w64 y) ≡ z
 result_is {y} {z} h e = to_z-of_z w64 y (record { sfits = h }) ∙ e
 
 -- Below half of the range a pattern is its own number; from there on it is that less the range.
@@ -47,8 +47,9 @@ signed_neg p h l =
     let e : 2 ^ 32 - p ≡ suc (2 ^ 32 - suc p) = omega arith in
     rw (le-ltb p (2 ^ 31) h) (ap (λ (n : ℕ). neg_ℤ (pos n)) e)
 
-pub signed_high : (p : ℕ) → 2 ^ 31 ≤ p → p < 2 ^ 32 → pos p -ℤ pos (2 ^ 32) ≡ signed p
-signed_high p h l = rw (lt-ltb p (2 ^ 32) l) (sym (signed_neg p h l))
+pub signed_is : (p : ℕ) → p < 2 ^ 32 → to_z w32 p ≡ signed p
+signed_is p l =
+    cases (ltb p (2 ^ 31)) (λ t. rw t (sym (signed_low p (ltb-true _ _ t)))) (λ f. rw f (sym (signed_neg p (ltb-false _ _ f) l)))
 
 pub signed_mag : (p : ℕ) → p < 2 ^ 32 → mag (signed p) < 2 ^ 31
 signed_mag p l =
@@ -71,29 +72,8 @@ size_of (suc w) l h =
     let e : suc w - 1 ≡ w = omega arith in
     record { shifted = omega arith; within = p; twice = rw e t }
 
--- The sign bit fills the bits before it; a form without sign, or a number below half of its size, is its own pattern.
-pub pattern_filled : (form w raw : ℕ) → form ≡ 2 → 2 ^ (w - 1) ≤ raw → pattern form w raw ≡ raw + (2 ^ 32 - 2 ^ w)
-unfolding pattern
-pattern_filled form w raw e h = rw (eq-eqb form 2 e, le-leb (2 ^ (w - 1)) raw h)
-
-pub pattern_small : (form w raw : ℕ) → form ≡ 2 → raw < 2 ^ (w - 1) → pattern form w raw ≡ raw
-unfolding pattern
-pattern_small form w raw e h = rw (eq-eqb form 2 e, lt-leb (2 ^ (w - 1)) raw h)
-
-pub pattern_other : (form w raw : ℕ) → (form ≡ 2 → ⊥) → pattern form w raw ≡ raw
-unfolding pattern
-pattern_other form w raw e = rw (ne_eqb form 2 e)
-
--- A signed number is from the pattern with the sign filled in, any other is the raw number; either is below the range.
-pub raw_signed : (form w raw : ℕ) → form ≡ 2 → signed (pattern form w raw) ≡ raw_number form w raw
-unfolding raw_number
-raw_signed form w raw e = rw (eq-eqb form 2 e)
-
-pub raw_plain : (form w raw : ℕ) → (form ≡ 2 → ⊥) → pos raw ≡ raw_number form w raw
-unfolding raw_number
-raw_plain form w raw e = rw (ne_eqb form 2 e)
-
-pub pattern_lt : (form w raw : ℕ) → 1 ≤ w → w ≤ 32 → raw < 2 ^ w → pattern form w raw < 2 ^ 32
+-- A pattern is below the range, and so is the number.
+pattern_lt : (form w raw : ℕ) → 1 ≤ w → w ≤ 32 → raw < 2 ^ w → pattern form w raw < 2 ^ 32
 unfolding pattern
 pattern_lt form w raw l h r =
     let s = size_of w l h in
@@ -146,21 +126,53 @@ unfolding in_float
 in_float_lem (pos n) h = le→leb n (2 ^ 53) (le_of_lt h)
 in_float_lem (negsuc n) h = lt→ltb n (2 ^ 53) h
 
--- The pattern is not below the lowest number, and not above the highest.
-pub below_lowest :
+-- So product and sum, as the code has them, fit a signed number of 64 bits, and a double holds the sum exactly.
+module _
     (slot : SlotRow) (raw : ℕ)
-    → in_order slot.form slot.lowest (pattern slot.form slot.width raw) ≡ false
-    → within_limits slot raw ≡ false
-unfolding within_limits
-below_lowest slot raw e = rw e
+    (some : 1 ≤ slot.width) (shown : slot.width ≤ widest_shown) (small : raw < 2 ^ slot.width)
+    (k : slot.multiplier < 2 ^ 16) (l : slot.offset < 2 ^ 32)
+  where
+    above_fits : SFits w64 (above slot raw)
+    above_fits = record { sfits = omega (arith, above_small slot raw some shown small k l) }
 
-pub not_below :
-    (slot : SlotRow) (raw : ℕ)
-    → let p = pattern slot.form slot.width raw in
-    in_order slot.form slot.lowest p ≡ true
-    → within_limits slot raw ≡ in_order slot.form p slot.highest
-unfolding within_limits
-not_below slot raw e = rw e
+    pub above_exact : T (in_float binary64 (above slot raw))
+    above_exact = in_float_lem (above slot raw) (omega (arith, above_small slot raw some shown small k l))
+
+    pub product_fits : SFits w64 (raw_number slot.form slot.width raw *ℤ pos slot.multiplier)
+    product_fits = record { sfits = omega (arith, product_small slot.form slot.width raw slot.multiplier some shown small k) }
+
+    module _
+        (n o : ℤ) {p : ℕ}
+        (e : n ≡ raw_number slot.form slot.width raw) (f : o ≡ signed p)
+        (g : mag n < 2 ^ 63) (h : mag o < 2 ^ 63) (m : p < 2 ^ 32)
+      where
+        sum :
+            to_z w64 (of_z w64 (to_z w64 (of_z w64 n) *ℤ to_z w64 slot.multiplier)) +ℤ to_z w64 (of_z w64 o)
+            ≡ raw_number slot.form slot.width raw *ℤ pos slot.multiplier +ℤ signed p
+        sum =
+            let told = reread (λ i. result_is g e i *ℤ to_z_pos w64 slot.multiplier (omega arith) i) product_fits.sfits in
+            λ i. told i +ℤ result_is h f i
+
+        -- whatever number is added
+        pub sum_fits : SFits w64 (to_z w64 (of_z w64 (to_z w64 (of_z w64 n) *ℤ to_z w64 slot.multiplier)) +ℤ to_z w64 (of_z w64 o))
+        sum_fits =
+            let x : ℤ = raw_number slot.form slot.width raw *ℤ pos slot.multiplier in
+            let small-x = product_small slot.form slot.width raw slot.multiplier some shown small k in
+            subst (SFits w64) (sym sum) (record { sfits = omega (arith, mag_add x (signed p), small-x, signed_mag p m) })
+
+    pub sum_told :
+        (n o : ℤ)
+        → n ≡ raw_number slot.form slot.width raw
+        → o ≡ signed slot.offset
+        → mag n < 2 ^ 63
+        → mag o < 2 ^ 63
+        → to_z w64 (of_z w64 (to_z w64 (of_z w64 (to_z w64 (of_z w64 n) *ℤ to_z w64 slot.multiplier)) +ℤ to_z w64 (of_z w64 o))) ≡ above slot raw
+    unfolding above
+    sum_told n o e f g h = reread (sum n o e f g h l) above_fits.sfits
+
+pub ruleset sums = (product_fits, sum_told)
+
+pub ruleset exact = (reads, above_exact)
 
 -- A digit and those above it: one that passes leaves those, one that does not ends the run, and with none left it has passed.
 module _ (p : ℕ → Bool) (size n i x : ℕ) where
@@ -182,6 +194,21 @@ module _ (p : ℕ → Bool) (size n i x : ℕ) where
       let e : n - i ≡ 0 = omega arith in
       ap (λ (k : ℕ). digits_pass p size k x) e
 
+-- A digit in a range, and one out of it; the size of digits as a shift gives it.
+pub in_range : (low high d : ℕ) → low ≤ d → d ≤ high → (leb low d && leb d high) ≡ true
+in_range low high d h l = rw (le-leb low d h) (le-leb d high l)
+
+pub out_of_range : (low high d : ℕ) → (d < low) ⊎ ((low ≤ d) × (high < d)) → (leb low d && leb d high) ≡ false
+out_of_range low high d (inl h) = rw (lt-leb low d h)
+out_of_range low high d (inr h) = rw (le-leb low d h.0) (lt-leb d high h.1)
+
+-- No number is below a range from 0.
+from_zero : (high : ℕ) → ◌≡◌ {A = ℕ → Bool} (λ (d : ℕ). leb 0 d && leb d high) (λ (d : ℕ). leb d high)
+from_zero high = λ i d. le-leb 0 d (omega arith) i && leb d high
+
+pub digit_size : (n : ℕ) → n ≤ 8 → 1 * 2 ^ n % 2 ^ 32 ≡ 2 ^ n
+digit_size n h = let p : 2 ^ n ≤ 2 ^ 8 = pow_mono h in omega arith
+
 -- The line of each form, up to BCD and of at most 32 bits.
 module _ (width : ℕ) (slot : SlotRow) (raw : ℕ) (h : width ≤ widest_shown) where
   pub scaled_is : (form : ℕ) → form ≤ snm → form_line form width slot raw ≡ cond (within_limits slot raw) (number_line slot raw) (Invalid raw)
@@ -200,9 +227,27 @@ module _ (width : ℕ) (slot : SlotRow) (raw : ℕ) (h : width ≤ widest_shown)
   unfolding form_line
   text_is = rw (le-ltb widest_shown width h)
 
-  pub digits_is : form_line bcd width slot raw ≡ digits_line width raw
+  digits_is : form_line bcd width slot raw ≡ digits_line width raw
   unfolding form_line
   digits_is = rw (le-ltb widest_shown width h)
+
+-- BCD is a range of digits from 0.
+pub bcd_is :
+    (form width : ℕ) (slot : SlotRow) (raw : ℕ)
+    → form ≡ bcd
+    → width ≤ widest_shown
+    → form_line form width slot raw
+    ≡ cond (eqb (width % 4) 0) (cond (digits_pass (λ (d : ℕ). leb 0 d && leb d 9) 4 (width / 4) raw) (Digits raw) (Invalid raw))
+    (Unknown not_shown_reason)
+unfolding digits_line
+bcd_is form width slot raw e h =
+    let told : digits_pass decimal 4 (width / 4) raw ≡ digits_pass (λ (d : ℕ). leb 0 d && leb d 9) 4 (width / 4) raw =
+    ap (λ (p : ℕ → Bool). digits_pass p 4 (width / 4) raw) (sym (from_zero 9)) in
+    ap (λ (f : ℕ). form_line f width slot raw) e
+    ∙ digits_is width slot raw h
+    ∙ ap (λ (b : Bool). cond (eqb (width % 4) 0) (cond b (Digits raw) (Invalid raw)) (Unknown not_shown_reason)) told
+
+pub ruleset form_lines = (scaled_is, state_is, bits_is, text_is, bcd_is)
 
 pub form_high : (form width : ℕ) (slot : SlotRow) (raw : ℕ) → bmm ≤ form → form_line form width slot raw ≡ Unknown not_shown_reason
 unfolding form_line

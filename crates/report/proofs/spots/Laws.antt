@@ -1,9 +1,8 @@
 -- Laws of spots: an item with room and one without, where spots lie, and one spot more.
 use mathlib.Core.Path.{◌≡◌, refl, ap}
 use mathlib.Core.List.{List, [], ◌∷◌, ◌++◌}
-use mathlib.Core.Option.{Option, none, some}
+use Rattle.std.proofs.Common.{Option, None, Some}
 use Prim.Native.Nat.{ℕ, suc, ◌+◌, ◌≤◌, ◌<◌}
-use native.Mathlib.Omega.{arith}
 use borrow.Author.Tests.{lt-ltb, le-ltb, ltb-false}
 use lib.Dec.{ltb}
 use lib.ListN.{length}
@@ -16,29 +15,29 @@ use Rattle.catalogue.proofs.lookup.Laws.{prn_in_range}
 use Rattle.report.specs.declared.spots.Place.{Place}
 use Rattle.report.specs.declared.spots.Place.TheVariants.{Bit, Lost, Past}
 use Rattle.report.specs.declared.spots.Spot.{Spot}
-use Rattle.report.specs.declared.spots.Spot.TheVariants.{Astray, Beyond, Rowless, Over, Lies}
+use Rattle.report.specs.declared.spots.Spot.TheVariants.{Over, Lies}
 use Rattle.report.specs.Spots.{spot_at, spot_of, behind, spots, place_after}
-use Rattle.report.specs.Inner.{Inside, Lying}
+use Rattle.report.specs.Inner.{Lying}
 
 -- An item that ends past the window, and one that does not.
 module _ (row : PrnRow) (to at : ℕ) where
-  pub spot_over : to < at + row.width → spot_at (some row) to at ≡ Over
+  pub spot_over : to < at + row.width → spot_at (Some row) to at ≡ Over
   unfolding spot_at
   spot_over h = rw (lt-ltb to (at + row.width) h)
 
-  pub spot_lies : at + row.width ≤ to → spot_at (some row) to at ≡ Lies row at
+  pub spot_lies : at + row.width ≤ to → spot_at (Some row) to at ≡ Lies row at
   unfolding spot_at
   spot_lies h = rw (le-ltb to (at + row.width) h)
 
 -- Every row that is found has a width.
 abbrev pub Wide : (ℕ → Option PrnRow) → Type 0
-Wide rows = (prn : ℕ) (row : PrnRow) → rows prn ≡ some row → 1 ≤ row.width
+Wide rows = (prn : ℕ) (row : PrnRow) → rows prn ≡ Some row → 1 ≤ row.width
 
 -- So an item that lies somewhere has one, and lies within the window.
-spot_at_lying : (o : Option PrnRow) (to at : ℕ) → ((row : PrnRow) → o ≡ some row → 1 ≤ row.width) → Lying to (spot_at o to at)
+spot_at_lying : (o : Option PrnRow) (to at : ℕ) → ((row : PrnRow) → o ≡ Some row → 1 ≤ row.width) → Lying to (spot_at o to at)
 unfolding spot_at
-spot_at_lying none to at w = tt
-spot_at_lying (some row) to at w =
+spot_at_lying None to at w = tt
+spot_at_lying (Some row) to at w =
     cases (ltb to (at + row.width)) (λ t. rw t tt) (λ f. rw f (w row refl, ltb-false to (at + row.width) f))
 
 pub spot_lying : (rows : ℕ → Option PrnRow) → Wide rows → (to : ℕ) (place : Place) (prn : ℕ) → Lying to (spot_of rows to place prn)
@@ -46,21 +45,6 @@ unfolding spot_of
 spot_lying rows w to Lost prn = tt
 spot_lying rows w to Past prn = tt
 spot_lying rows w to (Bit at) prn = spot_at_lying (rows prn) to at (w prn)
-
--- The place behind such an item is within the window, and what lies in a window lies in a wider one.
-pub behind_inside : (to : ℕ) (spot : Spot) → Lying to spot → Inside to (behind spot)
-behind_inside to Astray l = tt
-behind_inside to Beyond l = tt
-behind_inside to Rowless l = tt
-behind_inside to Over l = tt
-behind_inside to (Lies row at) l = l.1
-
-pub lying_wider : (to most : ℕ) (spot : Spot) → to ≤ most → Lying to spot → Lying most spot
-lying_wider to most Astray h l = tt
-lying_wider to most Beyond h l = tt
-lying_wider to most Rowless h l = tt
-lying_wider to most Over h l = tt
-lying_wider to most (Lies row at) h l = (l.0, omega (arith, l.1))
 
 -- One PRN more: one spot more, from the place behind the others.
 module _ (rows : ℕ → Option PrnRow) (to : ℕ) where

@@ -1,13 +1,13 @@
 -- Laws of the tests over lines.
 use mathlib.Core.Path.{◌≡◌, refl, sym, ap, ◌∙◌}
 use mathlib.Core.Logic.{⊎_elim}
-use mathlib.Core.Bool.{Bool, true, false, ◌||◌, true≢false}
+use mathlib.Core.Bool.{Bool, true, ◌||◌, true≢false}
 use mathlib.Core.List.Memᴰ
 use mathlib.Core.List.{List, [], ◌∷◌, ◌++◌, Memᴰ}
 use Rattle.frame.proofs.bytes.Laws.{cases}
 use Rattle.report.specs.declared.line.Line.{Line}
 use Rattle.report.specs.declared.tally.Tally.{Tally}
-use Rattle.report.specs.Verdict.{verdict_clear, verdict_flagged, verdict_unknown, any, verdict_by, verdict_of}
+use Rattle.report.specs.Verdict.{any, verdict_by, verdict_of}
 use Rattle.report.specs.Inner.{tally_of}
 
 -- A test that holds for a line of the list, and the line that it holds for.
@@ -35,14 +35,3 @@ any_snoc p (k ∷ ls) l = cases (p k) (λ t. rw t) (λ f. rw f (any_snoc p ls l)
 pub verdict_told : (ls : List Line) {t : Tally} → t ≡ tally_of ls → verdict_by t.flagged t.unknown ≡ verdict_of ls
 unfolding verdict_of tally_of
 verdict_told ls e = λ i. verdict_by (e i).flagged (e i).unknown
-
--- The verdict by its two tests.
-module _ (flagged unknown : Bool) where
-  pub by_flagged : flagged ≡ true → verdict_by flagged unknown ≡ verdict_flagged
-  by_flagged e = rw e
-
-  pub by_unknown : flagged ≡ false → unknown ≡ true → verdict_by flagged unknown ≡ verdict_unknown
-  by_unknown e f = rw (e, f)
-
-  pub by_neither : flagged ≡ false → unknown ≡ false → verdict_by flagged unknown ≡ verdict_clear
-  by_neither e f = rw (e, f)
