@@ -1,8 +1,7 @@
 -- The law of cuts: a stream fed part after part tells what it gives read at once. Each law holds of every form of state that keeps
 -- positions; the forms are two, by value and as 24 bytes.
-use Rattle.std.proofs.Common.{◌≡◌, ℕ, ◌≤◌, Bool, true, false, cond, eqb, List, [], ◌∷◌, length, refl, ap, ◌∙◌, subst, inl, append-nil}
-use mathlib.Core.Option.{Option, none, some}
-use mathlib.Core.Option.{map}
+use Rattle.std.specs.Option.{option_map}
+use Rattle.std.proofs.Common.{◌≡◌, ℕ, ◌≤◌, Bool, true, false, cond, eqb, List, [], ◌∷◌, length, refl, ap, ◌∙◌, subst, inl, append-nil, Option, None, Some}
 use Rattle.frame.specs.Frame.{most_bytes}
 use Rattle.frame.specs.Refusal.{refused, output_short}
 use Rattle.frame.proofs.bytes.Laws.{cases}
@@ -56,20 +55,20 @@ module _ {S : Type 0} (f : Form S) {start : S} (keeps : Keeping f start) where
 
   pub empty_part :
       (cs : List Lent) (s : List ℕ) (room : ℕ)
-      → call f (calls_over f cs start s).state [] room ≡ record { event = none; taken = 0; state = (calls_over f cs start s).state }
+      → call f (calls_over f cs start s).state [] room ≡ record { event = None; taken = 0; state = (calls_over f cs start s).state }
   unfolding call
   empty_part cs s room =
       let state = (calls_over f cs start s).state in
       let begun = holds_begun f keeps cs s in
       let p = f.view state in
       rw (reach_none p, open_event p begun.open_record, open_passed p begun.open_record)
-      (λ i. record { event = none; taken = (reach_none p i).taken; state = begun.written i })
+      (λ i. record { event = None; taken = (reach_none p i).taken; state = begun.written i })
 
   -- The place of an event, for who asks the state that the call left: right behind the record told of.
   pub place_told :
       (cs : List Lent) (s part : List ℕ) (room : ℕ) (e : Event)
       → let k = call f (calls_over f cs start s).state part room in
-      k.event ≡ some e → (f.view k.state).place ≡ place_behind e.place (size_told e.told)
+      k.event ≡ Some e → (f.view k.state).place ≡ place_behind e.place (size_told e.told)
   place_told cs s part room e h =
       let state = (calls_over f cs start s).state in
       let between = (calls_run f keeps cs start s (start_between f keeps)).between in
@@ -83,7 +82,7 @@ module _ {S : Type 0} (f : Form S) {start : S} (keeps : Keeping f start) where
   -- "after 60 every call takes nothing and gives nothing, and the end is 0"
   pub no_more_after :
       (cs : List Lent) (s part : List ℕ) (room : ℕ) (e : Event)
-      → (call f (calls_over f cs start s).state part room).event ≡ some e
+      → (call f (calls_over f cs start s).state part room).event ≡ Some e
       → e.told ≡ refused stream_kind_unknown
       → NoMore f (call f (calls_over f cs start s).state part room).state
   no_more_after cs s part room e =
@@ -93,25 +92,25 @@ module _ {S : Type 0} (f : Form S) {start : S} (keeps : Keeping f start) where
 pub call_answers :
     (p : Position) (part : List ℕ) (room : ℕ)
     → told_within p part room
-    ≡ cond (is_short (told p part) room) (some (refused output_short)) (map (λ (e : Event). e.told) (told p part))
+    ≡ cond (is_short (told p part) room) (Some (refused output_short)) (option_map (λ (e : Event). e.told) (told p part))
 call_answers p part room = go (told p part)
   where
     go :
         (x : Option Event)
-        → map (λ (e : Event). within room e.told) x
-        ≡ cond (is_short x room) (some (refused output_short)) (map (λ (e : Event). e.told) x)
-    go none = refl
-    go (some e) = cases (outgrows e.told room) (λ t. rw t refl) (λ t. rw t refl)
+        → option_map (λ (e : Event). within room e.told) x
+        ≡ cond (is_short x room) (Some (refused output_short)) (option_map (λ (e : Event). e.told) x)
+    go None = refl
+    go (Some e) = cases (outgrows e.told room) (λ t. rw t refl) (λ t. rw t refl)
 
 -- What the ending call and the place say together: "At the end a partial record is reported by its place".
-pub end_reported : (p : Position) → end_place p ≡ cond (eqb (end_refusal p) stream_cut) (some p.place) none
+pub end_reported : (p : Position) → end_place p ≡ cond (eqb (end_refusal p) stream_cut) (Some p.place) None
 unfolding end_place
 end_reported p = go p.stopped (eqb (length p.begun) 0)
   where
     go :
         (t z : Bool)
-        → cond t none (cond z none (some p.place))
-        ≡ cond (eqb (cut_refusal (cond t none (cond z none (some p.place)))) stream_cut) (some p.place) none
+        → cond t None (cond z None (Some p.place))
+        ≡ cond (eqb (cut_refusal (cond t None (cond z None (Some p.place)))) stream_cut) (Some p.place) None
     go true z = refl
     go false true = refl
     go false false = refl

@@ -1,8 +1,7 @@
 -- What holds of every frame that the reader of a stream gives.
-use Rattle.std.proofs.Common.{◌≡◌, ℕ, ◌+◌, ◌≤◌, Bool, true, false, cond, ◌||◌, eqb, ltb, List, length, drop, sym, refl, ◌∙◌, subst, arith}
+use Rattle.std.specs.Option.{option_map}
+use Rattle.std.proofs.Common.{◌≡◌, ℕ, ◌+◌, ◌≤◌, Bool, true, false, cond, ◌||◌, eqb, ltb, List, length, drop, sym, refl, ◌∙◌, subst, arith, Option, None, Some}
 use Rattle.std.proofs.Common.{length-take, ltb-true, le-ltb}
-use mathlib.Core.Option.{Option, none, some}
-use mathlib.Core.Option.{map}
 use Rattle.frame.specs.Frame.{Frame, frame_size, most_bytes}
 use Rattle.frame.specs.Refusal.{Outcome, refused, accepted, outcome, no_refusal, too_long, output_short}
 use Rattle.stream.specs.Record.{first_length, second_length, runs_at, runs_in, tells}
@@ -22,7 +21,7 @@ abbrev Fits : Outcome Frame → Type 0
 Fits (refused n) = Unit {0}
 Fits (accepted f) = frame_size f ≤ most_bytes
 
-record_fits : (r : List ℕ) (o : Outcome Frame) → tells r ≡ some o → Fits o
+record_fits : (r : List ℕ) (o : Outcome Frame) → tells r ≡ Some o → Fits o
 unfolding runs_in
 record_fits r o e =
     let first = length-take (first_length r) (drop runs_at r) in
@@ -30,19 +29,19 @@ record_fits r o e =
     told_by r o e (λ k w h. subst Fits h (omega (arith, fit_within r w, first, second))) (λ k h. subst Fits h tt) (λ f t h. subst Fits h tt)
 
 abbrev AllFits : Option (Outcome Frame) → Type 0
-AllFits none = Unit {0}
-AllFits (some o) = Fits o
+AllFits None = Unit {0}
+AllFits (Some o) = Fits o
 
 abbrev EventFits : Option Event → Type 0
-EventFits none = Unit {0}
-EventFits (some e) = Fits e.told
+EventFits None = Unit {0}
+EventFits (Some e) = Fits e.told
 
 event_fits : (p : Position) (x : Option Event) → event_at p ≡ x → EventFits x
-event_fits p none e = tt
-event_fits p (some y) e = record_fits p.begun y.told (event_is p y e).record_tells
+event_fits p None e = tt
+event_fits p (Some y) e = record_fits p.begun y.told (event_is p y e).record_tells
 
 -- "a frame that is given has two runs of at most twelve bytes together"
-pub given_within : (p : Position) (part : List ℕ) (room : ℕ) (f : Frame) → told_within p part room ≡ some (accepted f) → frame_size f ≤ most_bytes
+pub given_within : (p : Position) (part : List ℕ) (room : ℕ) (f : Frame) → told_within p part room ≡ Some (accepted f) → frame_size f ≤ most_bytes
 given_within p part room f e =
     subst AllFits e (go (told p part) (event_fits (reach p part).position (told p part) refl))
   where
@@ -50,9 +49,9 @@ given_within p part room f e =
     lent o true w = tt
     lent o false w = w
 
-    go : (x : Option Event) → EventFits x → AllFits (map (λ (y : Event). within room y.told) x)
-    go none w = tt
-    go (some y) w = lent y.told (outgrows y.told room) w
+    go : (x : Option Event) → EventFits x → AllFits (option_map (λ (y : Event). within room y.told) x)
+    go None w = tt
+    go (Some y) w = lent y.told (outgrows y.told room) w
 
 -- Twelve bytes of output are always enough.
 pub never_short : (p : Position) (part : List ℕ) (room : ℕ) → most_bytes ≤ room → is_short (told p part) room ≡ false
@@ -63,8 +62,8 @@ never_short p part room l = go (told p part) (event_fits (reach p part).position
     fits (accepted f) w = le-ltb room (frame_size f) (omega (arith, l, w))
 
     go : (x : Option Event) → EventFits x → is_short x room ≡ false
-    go none w = refl
-    go (some y) w = fits y.told w
+    go None w = refl
+    go (Some y) w = fits y.told w
 
 only : (b : Bool) → (b || false) ≡ true → b ≡ true
 only true e = refl
@@ -91,7 +90,7 @@ iso_size run e =
 
 pub never_too_long :
     (p : Position) (part : List ℕ) (room : ℕ) (f : Frame)
-    → told_within p part room ≡ some (accepted f)
+    → told_within p part room ≡ Some (accepted f)
     → (read_frame f.first f.response ≡ refused too_long → ⊥) × (read_iso f.first ≡ refused too_long → ⊥)
 never_too_long p part room f e =
     let few = given_within p part room f e in (

@@ -1,16 +1,15 @@
 -- Frames and their records, there and back: demand 2 for the adapter's records.
-use Rattle.std.proofs.Common.{◌≡◌, ℕ, zero, suc, ◌+◌, ◌-◌, ◌≤◌, Bool, true, false, cond, ◌&&◌, eqb, List, [], ◌∷◌, ◌++◌, length, take, drop}
+use Rattle.std.proofs.Common.{◌≡◌, ℕ, zero, suc, ◌+◌, ◌-◌, ◌≤◌, Bool, true, false, cond, ◌&&◌, eqb, List, [], ◌∷◌, ◌++◌, length, take, drop, Some}
 use Rattle.std.proofs.Common.{replicate, sym, refl, ap, ◌∙◌, append_assoc, arith, length-append, length-drop, take-append-drop, drop-drop, take_at}
 use Rattle.std.proofs.Common.{drop_at, eqb-true}
-use mathlib.Core.Option.{some}
+use Rattle.frame.specs.Bytes.{all_zero}
 use Rattle.frame.specs.Frame.{Frame, frame_size, most_bytes}
 use Rattle.frame.specs.Refusal.{refused, accepted}
 use Rattle.stream.specs.Refusal.{stream_record_wrong}
-use Rattle.stream.specs.Record.{frame_kind, frame_record_size, kind_of, first_length, second_length, runs_at, runs_in, all_zero, runs_fit, tells, record_of}
+use Rattle.stream.specs.Record.{frame_kind, frame_record_size, kind_of, first_length, second_length, runs_at, runs_in, runs_fit, tells, record_of}
 use Rattle.stream.proofs.record.Laws.{fit_within, fit_unused, tells_frame, told_by, first_size, second_size, runs_joined}
 
 zeros : (n : ℕ) → all_zero (replicate n 0) ≡ true
-unfolding all_zero
 zeros zero = refl
 zeros (suc n) = zeros n
 
@@ -48,13 +47,12 @@ module _ (f : Frame) (few : frame_size f ≤ most_bytes) where
         response = (ap (take (length f.response)) behind ∙ take_at f.response rest (length f.response) refl) i;
       }
 
-  pub packed_back : tells (record_of f) ≡ some (accepted f)
+  pub packed_back : tells (record_of f) ≡ Some (accepted f)
   unfolding record_of
   packed_back =
-      tells_frame (record_of f) refl ∙ (λ i. some (cond (fits i) (accepted (runs_same i)) (refused stream_record_wrong)))
+      tells_frame (record_of f) refl ∙ (λ i. Some (cond (fits i) (accepted (runs_same i)) (refused stream_record_wrong)))
 
 zeros_are : (s : List ℕ) → all_zero s ≡ true → s ≡ replicate (length s) 0
-unfolding all_zero
 zeros_are [] e = refl
 zeros_are (b ∷ s) e = go (eqb b 0) refl e (zeros_are s)
   where
@@ -95,7 +93,7 @@ frame_again r whole kind fits =
     three_first r whole ∙ (λ i. kind i ∷ sym first i ∷ sym second i ∷ twelve i)
 
 -- A whole record that gives a frame is that frame's record, byte for byte.
-pub packed_again : (r : List ℕ) (f : Frame) → length r ≡ frame_record_size → tells r ≡ some (accepted f) → r ≡ record_of f
+pub packed_again : (r : List ℕ) (f : Frame) → length r ≡ frame_record_size → tells r ≡ Some (accepted f) → r ≡ record_of f
 packed_again r f whole e =
     told_by r (accepted f) e (λ kind fits h. frame_again r whole kind fits ∙ (let given : runs_in r ≡ f = cc in ap record_of given))
     (λ k h. absurd (let z : ◌≡◌ {A = ℕ} 0 1 = cc in omega arith))

@@ -1,6 +1,5 @@
 -- Calls one after the other: "Laws over calls, here and later, start fresh, hand on each state unaltered and feed untaken bytes again."
-use Rattle.std.specs.Prelude.{ℕ, Bool, false, cond, List, [], ◌∷◌, ◌++◌, length, take, drop, replicate}
-use Rattle.std.proofs.Math.Option.{Option, none, some}
+use Rattle.std.specs.Prelude.{ℕ, Bool, false, cond, List, [], ◌∷◌, ◌++◌, length, take, drop, replicate, Option, None, Some}
 use Rattle.stream.specs.Stream.{Event, listed}
 use Rattle.stream.specs.Reader.{Position, told, taken, after, outgrows}
 use Rattle.stream.specs.State.{position_in, bytes_of}
@@ -18,8 +17,8 @@ by_bytes = record { view = position_in; write = bytes_of }
 
 -- Whether lent output is shorter than the two runs that a call would give.
 abbrev pub is_short : Option Event → ℕ → Bool
-is_short none room = false
-is_short (some e) room = outgrows e.told room
+is_short None room = false
+is_short (Some e) room = outgrows e.told room
 
 -- A call that tells and then advances. Refused with 8 it takes nothing, and "the state is as it was".
 pub record Step (S : Type 0) : Type 0 where
@@ -30,7 +29,7 @@ pub record Step (S : Type 0) : Type 0 where
 unfoldable pub call : {S : Type 0} → Form S → S → List ℕ → ℕ → Step S
 call f s part room =
     let p = f.view s in
-    cond (is_short (told p part) room) (record { event = none; taken = 0; state = s })
+    cond (is_short (told p part) room) (record { event = None; taken = 0; state = s })
     (record { event = told p part; taken = taken p part; state = f.write (after p part) })
 
 -- What calls have told, the state that they left, and the bytes not yet taken.

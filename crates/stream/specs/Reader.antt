@@ -1,13 +1,13 @@
 -- One call of the reader that is fed part after part: document 02, K4.
-use Rattle.std.specs.Prelude.{ℕ, suc, Bool, false, cond, not, ◌&&◌, List, [], ◌∷◌, ◌++◌, length, take, ◌==◌, nat_lt}
-use Rattle.std.proofs.Math.Option.{Option, none, some, map}
+use Rattle.std.specs.Prelude.{Option, None, Some, option_map}
+use Rattle.std.specs.Prelude.{ℕ, suc, Bool, false, cond, not, ◌&&◌, List, [], ◌∷◌, ◌++◌, length, take, ◌==◌, nat_lt, Result, Ok, Err}
 use Rattle.frame.specs.Frame.{Frame, frame_size, Runs, runs, out_written}
-use Rattle.frame.specs.Refusal.{Outcome, refused, accepted, no_refusal, output_short}
+use Rattle.frame.specs.Refusal.{Outcome, refused, accepted, no_refusal, output_short, outcome_by}
+use Rattle.frame.specs.declared.frame.Runs as given
 use Rattle.stream.specs.declared.state.StreamState.{StreamState}
 use Rattle.stream.specs.declared.reader.Advanced.{Advanced}
-use Rattle.stream.specs.declared.reader.Told.{Told}
-use Rattle.stream.specs.declared.reader.Told.TheVariants.{Nothing, Refused, Given}
-use Rattle.stream.specs.Refusal.{stream_cut}
+use Rattle.stream.specs.declared.refusal.Refusal.{Refusal}
+use Rattle.stream.specs.Refusal.{stream_cut, number_of}
 use Rattle.stream.specs.Record.{tick_kind, kind_of, is_unknown_kind, partial}
 use Rattle.stream.specs.Stream.{Event, event_of, cut_at, place_behind}
 
@@ -35,7 +35,7 @@ unfoldable pub is_telling : Position → Bool
 is_telling p = not (partial p.begun) && not (kind_of p.begun == tick_kind)
 
 unfoldable pub event_at : Position → Option Event
-event_at p = cond (partial p.begun) none (event_of p.place p.begun)
+event_at p = cond (partial p.begun) None (event_of p.place p.begun)
 
 -- What a call reaches, and the bytes taken: "A call stops after the first frame or refusal and tells the bytes taken." Once reading has
 -- stopped it takes none.
@@ -71,23 +71,23 @@ abbrev pub within : ℕ → Outcome Frame → Outcome Frame
 within room o = cond (outgrows o room) (refused output_short) o
 
 abbrev pub told_within : Position → List ℕ → ℕ → Option (Outcome Frame)
-told_within p part room = map (λ (e : Event). within room e.told) (told p part)
+told_within p part room = option_map (λ (e : Event). within room e.told) (told p part)
 
 -- What is handed over of it: the length of each run; and the lent output afterwards.
 abbrev pub runs_told : Option (Outcome Frame) → Option (Outcome Runs)
-runs_told o = map runs o
+runs_told o = option_map runs o
 
 abbrev pub out_told : Option (Outcome Frame) → List ℕ → List ℕ
-out_told none out = out
-out_told (some o) out = out_written o out
+out_told None out = out
+out_told (Some o) out = out_written o out
 
 -- The end of the stream: the place of the record begun, if there is one, after 60 none; and 62 where there is such a place.
 unfoldable pub end_place : Position → Option ℕ
-end_place p = cond p.stopped none (cut_at p.place p.begun)
+end_place p = cond p.stopped None (cut_at p.place p.begun)
 
 abbrev pub cut_refusal : Option ℕ → ℕ
-cut_refusal none = no_refusal
-cut_refusal (some place) = stream_cut
+cut_refusal None = no_refusal
+cut_refusal (Some place) = stream_cut
 
 abbrev pub end_refusal : Position → ℕ
 end_refusal p = cut_refusal (end_place p)
@@ -103,8 +103,11 @@ position_of s = record { place = s.place; stopped = s.stopped; begun = or_none (
 abbrev pub advanced_of : Advanced → Reached
 advanced_of a = record { position = position_of a.state; taken = a.taken }
 
--- The values of each case of the telling call's enum.
-abbrev pub told_of : Told → Option (Outcome Runs)
-told_of Nothing = none
-told_of (Refused n) = some (refused n)
-told_of (Given f s) = some (accepted (record { first = f; response = s }))
+-- The length of each run of a frame that is given, or the refusal; and what the telling call gives, which may be nothing.
+abbrev pub given_of : Result given.Runs Refusal → Outcome Runs
+given_of r = outcome_by (λ (g : given.Runs). record { first = g.first; response = g.response }) number_of r
+
+abbrev pub told_of : Result (Option given.Runs) Refusal → Option (Outcome Runs)
+told_of (Ok None) = None
+told_of (Ok (Some g)) = Some (given_of (Ok g))
+told_of (Err e) = Some (given_of (Err e))

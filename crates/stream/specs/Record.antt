@@ -1,6 +1,7 @@
 -- Records of the adapter's stream: document 02, K4. A record is its bytes, the kind byte first.
-use Rattle.std.specs.Prelude.{ℕ, ◌+◌, ◌-◌, Bool, true, cond, not, ◌&&◌, List, [], ◌∷◌, ◌++◌, length, take, drop, replicate, ◌==◌, nat_le, nat_lt, slice_index}
-use Rattle.std.proofs.Math.Option.{Option, none, some}
+use Rattle.std.specs.Prelude.{Option, None, Some}
+use Rattle.std.specs.Prelude.{ℕ, ◌+◌, ◌-◌, Bool, cond, not, ◌&&◌, List, ◌∷◌, ◌++◌, length, take, drop, replicate, ◌==◌, nat_le, nat_lt, slice_index}
+use Rattle.frame.specs.Bytes.{all_zero}
 use Rattle.frame.specs.Frame.{Frame, frame_size, most_bytes}
 use Rattle.frame.specs.Refusal.{Outcome, refused, accepted}
 use Rattle.stream.specs.Refusal.{stream_kind_unknown, stream_record_wrong}
@@ -50,10 +51,6 @@ runs_in r =
       response = take (second_length r) (drop (runs_at + first_length r) r);
     }
 
-unfoldable pub all_zero : List ℕ → Bool
-all_zero [] = true
-all_zero (b ∷ bs) = b == 0 && all_zero bs
-
 -- What 61 refuses has "lengths over 12 together or unused bytes not zero".
 unfoldable pub runs_fit : List ℕ → Bool
 runs_fit r = nat_le (first_length r + second_length r) most_bytes && all_zero (drop (runs_at + (first_length r + second_length r)) r)
@@ -61,9 +58,9 @@ runs_fit r = nat_le (first_length r + second_length r) most_bytes && all_zero (d
 -- What a whole record tells: a tick nothing; a frame "its two runs, unread", or 61; an unknown kind 60.
 unfoldable pub tells : List ℕ → Option (Outcome Frame)
 tells r =
-    cond (kind_of r == tick_kind) none
-    (cond (kind_of r == frame_kind) (some (cond (runs_fit r) (accepted (runs_in r)) (refused stream_record_wrong)))
-    (some (refused stream_kind_unknown)))
+    cond (kind_of r == tick_kind) None
+    (cond (kind_of r == frame_kind) (Some (cond (runs_fit r) (accepted (runs_in r)) (refused stream_record_wrong)))
+    (Some (refused stream_kind_unknown)))
 
 -- The record of a frame of at most twelve bytes, as the adapter makes it.
 unfoldable pub record_of : Frame → List ℕ

@@ -1,5 +1,6 @@
 -- The state of 24 bytes that a caller keeps between calls.
-use Rattle.std.specs.Prelude.{ℕ, zero, suc, ◌+◌, ◌-◌, ◌*◌, ◌/◌, ◌%◌, ◌^◌, cond, not, List, [], ◌∷◌, ◌++◌, length, take, drop, replicate, ◌==◌, slice_index}
+use Rattle.std.specs.Prelude.{ℕ, ◌+◌, ◌-◌, cond, not, List, ◌∷◌, ◌++◌, length, take, drop, replicate, ◌==◌, slice_index}
+use Rattle.std.specs.Int.{w64, from_be_bytes, to_be_bytes}
 use Rattle.stream.specs.Reader.{Position, or_none}
 
 -- Bytes 0 to 7 the place, byte 8 stopped, byte 9 the count, bytes 10 to 23 the bytes held.
@@ -21,27 +22,18 @@ most_held = 14
 abbrev pub state_bytes : ℕ
 state_bytes = held_place + most_held
 
--- The number that so many bytes make, and the bytes of a number, the most significant first.
-unfoldable pub number_in : ℕ → List ℕ → ℕ
-number_in zero s = 0
-number_in (suc n) s = number_in n s * 256 + slice_index s n
-
-unfoldable pub big_endian : ℕ → ℕ → List ℕ
-big_endian zero x = []
-big_endian (suc n) x = x / 256 ^ n % 256 ∷ big_endian n x
-
--- The position that any 24 bytes are, and the bytes of a position.
+-- The position that any 24 bytes are, and the bytes of a position; of the place the most significant byte first.
 unfoldable pub position_in : List ℕ → Position
 position_in s =
     record {
-      place = number_in place_bytes s;
+      place = from_be_bytes w64 (take place_bytes s);
       stopped = not (slice_index s stopped_place == 0);
       begun = or_none (take (slice_index s count_place) (drop held_place s));
     }
 
 unfoldable pub bytes_of : Position → List ℕ
 bytes_of p =
-    big_endian place_bytes p.place
+    to_be_bytes w64 p.place
     ++ cond p.stopped 1 0 ∷ length p.begun ∷ (p.begun ++ replicate (most_held - length p.begun) 0)
 
 -- "24 zeros are a fresh state"

@@ -1,6 +1,5 @@
 -- The adapter's stream read at once, record by record: document 02, K4.
-use Rattle.std.specs.Prelude.{ℕ, zero, suc, ◌+◌, ◌%◌, ◌^◌, cond, List, [], ◌∷◌, ◌++◌, length, take, drop, ◌==◌}
-use Rattle.std.proofs.Math.Option.{Option, none, some, map}
+use Rattle.std.specs.Prelude.{ℕ, zero, suc, ◌+◌, ◌%◌, ◌^◌, cond, List, [], ◌∷◌, ◌++◌, length, take, drop, ◌==◌, Option, None, Some, option_map}
 use Rattle.frame.specs.Frame.{Frame}
 use Rattle.frame.specs.Refusal.{Outcome}
 use Rattle.stream.specs.Record.{kind_of, is_unknown_kind, whole_size, partial, tells}
@@ -15,11 +14,11 @@ place_behind place size = (place + size) % 2 ^ 64
 
 -- What a whole record at a place tells.
 abbrev pub event_of : ℕ → List ℕ → Option Event
-event_of place r = map (λ (o : Outcome Frame). record { place = place; told = o }) (tells r)
+event_of place r = option_map (λ (o : Outcome Frame). record { place = place; told = o }) (tells r)
 
 -- "At the end a partial record is reported by its place": the place, if there are bytes of one.
 abbrev pub cut_at : ℕ → List ℕ → Option ℕ
-cut_at place r = cond (length r == 0) none (some place)
+cut_at place r = cond (length r == 0) None (Some place)
 
 -- All that a stream gives: the events in their order, and the place of the record that its end cuts.
 pub record Yield : Type 0 where
@@ -27,12 +26,12 @@ pub record Yield : Type 0 where
   pub cut : Option ℕ
 
 abbrev pub nothing_more : Yield
-nothing_more = record { events = []; cut = none }
+nothing_more = record { events = []; cut = None }
 
 -- No event or one, as a list; and events before others.
 abbrev pub listed : Option Event → List Event
-listed none = []
-listed (some e) = e ∷ []
+listed None = []
+listed (Some e) = e ∷ []
 
 abbrev pub ahead : List Event → Yield → Yield
 ahead es w = record { events = es ++ w.events; cut = w.cut }

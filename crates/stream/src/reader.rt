@@ -1,29 +1,19 @@
 // The reader that is fed part after part.
-ghost use Rattle.std.specs.Prelude.{◌≡◌, ◌≤◌, true, length, if◌then◌else◌};
-ghost use Rattle.std.proofs.Math.Option.{map};
-ghost use Rattle.frame.specs.Bytes.{placed};
-ghost use Rattle.stream.specs.Record.{frame_record_size, is_unknown_kind, partial, tells};
+ghost use Rattle.std.specs.Prelude.{◌≡◌, ◌≤◌, length, if◌then◌else◌};
+ghost use Rattle.std.specs.Prelude.{Some, option_map};
+ghost use Rattle.frame.specs.Refusal.{told_by};
+ghost use Rattle.stream.specs.Refusal.{number_of};
+ghost use Rattle.stream.specs.Record.{frame_record_size, kind_of, is_unknown_kind, tells};
 ghost use Rattle.stream.specs.Stream.{place_behind};
 ghost use Rattle.stream.specs.Reader.{position_of, passed, reach, taken, after, told_within};
-ghost use Rattle.stream.specs.Reader.{within, runs_told, out_told, told_of, advanced_of, end_refusal};
-ghost use Rattle.stream.specs.Inner.{is_open, is_to_tell, StandsAt, standing, Reaches, WholeRecord};
+ghost use Rattle.stream.specs.Reader.{within, runs_told, out_told, given_of, told_of, advanced_of, end_refusal};
+ghost use Rattle.stream.specs.Inner.{is_open, is_to_tell, standing, WholeRecord};
 
-use crate::record::{
-    FIRST_LENGTH, FRAME_KIND, RUNS_AT, SECOND_LENGTH, TICK_KIND, is_unknown_kind, runs_fit,
-};
-use crate::refusal::{STREAM_CUT, STREAM_KIND_UNKNOWN, STREAM_RECORD_WRONG};
-use crate::state::{StreamState, is_partial, partial_count, sound};
+use crate::record::{Kind, RUNS_AT, lengths_in};
+use crate::refusal::Refusal;
+use crate::state::{Sound, StreamState};
 use frame::bytes::byte_at;
-use frame::refusal::{NO_REFUSAL, OUTPUT_SHORT};
-use std::num::wrapping_add_u64;
-
-// What a call tells of the part: a refusal's number, or the length of each run of the frame that it gives.
-#[derive(Clone, Copy)]
-pub enum Told {
-    Nothing,
-    Refused(u8),
-    Given { first: usize, second: usize },
-}
+use frame::frame::Runs;
 
 // What a call takes, and the state that it hands on.
 #[derive(Clone, Copy)]
@@ -32,171 +22,135 @@ pub struct Advanced {
     pub state: StreamState,
 }
 
-// Whether a frame or refusal stands there: a whole record that is no tick.
-fn is_telling(count: usize, kind: u8) -> bool
-    ensures { result ≡ is_to_tell count kind }
-{
-    !is_partial(count, kind) && kind != TICK_KIND
+// How far a call goes. As Advanced, but that the state there may hold all of a record, which `passed` leaves behind.
+#[derive(Clone, Copy)]
+struct Reached {
+    taken: usize,
+    state: StreamState,
+    ghost within: { state.count ≤ frame_record_size },
 }
 
-fn place_behind(place: u64, count: usize, kind: u8) -> u64
-    ensures { result ≡ (if is_open count kind then place else place_behind place count) }
-{
-    if is_partial(count, kind) {
-        return place;
+impl StreamState {
+    // Whether a frame or refusal stands there: a whole record that is no tick.
+    fn is_telling(&self) -> bool
+        ensures { result ≡ is_to_tell self.now.count (kind_of self.now.held) }
+    {
+        !self.is_partial() && self.kind() != Kind::Tick
     }
-    wrapping_add_u64(place, count as u64)
-}
 
-fn stopped_behind(stopped: bool, count: usize, kind: u8) -> bool
-    ensures { result ≡ (if is_open count kind then stopped else is_unknown_kind kind) }
-{
-    if is_partial(count, kind) {
-        return stopped;
+    // Behind a whole record: the place of the next, and whether reading stops.
+    fn place_behind(&self) -> u64
+        ensures { result ≡ (if is_open self.now.count (kind_of self.now.held) then self.now.place else place_behind self.now.place self.now.count) }
+    {
+        if self.is_partial() {
+            self.place
+        } else {
+            self.place.wrapping_add(self.count as u64)
+        }
     }
-    is_unknown_kind(kind)
-}
 
-// Behind a whole record: the state at the next, stopped if the kind is unknown.
-fn passed(state: StreamState) -> StreamState
-    requires { state.count ≤ frame_record_size }
-    ensures { StandsAt result (passed (standing state)) }
-{
-    let held = state.held;
-    let kind = held[0];
-    StreamState {
-        place: place_behind(state.place, state.count, kind),
-        stopped: stopped_behind(state.stopped, state.count, kind),
-        count: partial_count(state.count, kind),
-        held,
+    fn stopped_behind(&self) -> bool
+        ensures { result ≡ (if is_open self.now.count (kind_of self.now.held) then self.now.stopped else is_unknown_kind (kind_of self.now.held)) }
+    {
+        if self.is_partial() {
+            self.stopped
+        } else {
+            self.kind() == Kind::Unknown
+        }
     }
 }
 
-// How far a call may read: nowhere once reading has stopped.
-fn reading_end(stopped: bool, length: usize) -> usize
-    ensures { result ≡ (if stopped then 0 else length) }
-{
-    if stopped { 0 } else { length }
-}
-
-// The end of the loop, where something is to be told; the place and count there, else those behind.
-fn end_there(telling: bool, here: usize, end: usize) -> usize
-    ensures { result ≡ (if telling then here else end) }
-{
-    if telling { here } else { end }
-}
-
-fn place_there(telling: bool, place: u64, count: usize, kind: u8) -> u64
-    ensures { result ≡ (if telling then place else (if is_open count kind then place else place_behind place count)) }
-{
-    if telling {
-        return place;
+impl Reached {
+    // Behind a whole record: the state at the next, stopped if the kind is unknown.
+    fn passed(self) -> StreamState
+        ensures { position_of result ≡ passed (standing self.state) }
+    {
+        let there = self.state;
+        StreamState {
+            place: there.place_behind(),
+            stopped: there.stopped_behind(),
+            count: there.count_behind(),
+            ..there
+        }
     }
-    place_behind(place, count, kind)
 }
 
-// The part up to the end of the first record that is no tick, or all of it; none of it once reading has stopped. There is one way
-// through, with scalars and one array: where two ways meet, an array is copied.
-fn reach(begun: StreamState, part: &[u8]) -> Advanced
-    requires { StandsAt begun (standing begun) × (partial (standing begun).begun ≡ true) }
-    ensures { Reaches result (reach (standing begun) part.now) }
+// The part up to the end of the first record that is no tick, or all of it; none of it once reading has stopped. The loop is left by
+// `break`, and `passed` is not called: where two ways meet, or a state is handed over, the array is copied.
+fn reach(sound: Sound, part: &[u8]) -> Reached
+    ensures taken { result.taken ≡ taken (standing sound.state) part.now }
+    ensures position { standing result.state ≡ (reach (standing sound.state) part.now).position }
 {
-    let mut place = begun.place;
-    let mut count = begun.count;
-    let mut held = begun.held;
-    let mut end = reading_end(begun.stopped, part.len());
-    let mut i: usize = 0;
-    while i < end {
-        held[count] = part[i];
-        count += 1;
-        i += 1;
-        let kind = held[0];
-        let telling = is_telling(count, kind);
-        place = place_there(telling, place, count, kind);
-        count = end_there(telling, count, partial_count(count, kind));
-        end = end_there(telling, i, end);
+    let mut state = sound.state;
+    let mut taken = if state.stopped { 0 } else { part.len() };
+    for (i, &byte) in part[..taken].iter().enumerate() {
+        state.held[state.count] = byte;
+        state.count += 1;
+        if state.is_telling() {
+            taken = i + 1;
+            break;
+        }
+        state.place = state.place_behind();
+        state.count = state.count_behind();
     }
-    let state = StreamState {
-        place,
-        stopped: begun.stopped,
-        count,
-        held,
-    };
-    Advanced { taken: i, state }
-}
-
-// Copies the two runs of a frame to the start of `out`.
-fn put_runs(runs: &[u8], out: &mut [u8])
-    requires { length runs.now ≤ length out.old }
-    ensures { out.new ≡ placed out.old 0 runs.now }
-{
-    let mut i: usize = 0;
-    while i < runs.len() {
-        out[i] = runs[i];
-        i += 1;
-    }
+    Reached { taken, state }
 }
 
 // What a whole record other than a tick tells, with the runs of a frame in `out`.
-fn give(bytes: &[u8], out: &mut [u8]) -> Told
+fn give(bytes: &[u8], out: &mut [u8]) -> Result<Runs, Refusal>
     requires { WholeRecord bytes.now }
-    ensures told { told_of result ≡ runs_told (map (within (length out.old)) (tells bytes.now)) }
-    ensures left { out.new ≡ out_told (map (within (length out.old)) (tells bytes.now)) out.old }
+    ensures told { Some (given_of result) ≡ runs_told (option_map (within (length out.old)) (tells bytes.now)) }
+    ensures left { out.new ≡ out_told (option_map (within (length out.old)) (tells bytes.now)) out.old }
 {
-    if byte_at(bytes, 0) != FRAME_KIND {
-        return Told::Refused(STREAM_KIND_UNKNOWN);
-    }
-    if !runs_fit(bytes) {
-        return Told::Refused(STREAM_RECORD_WRONG);
-    }
-    let first = byte_at(bytes, FIRST_LENGTH) as usize;
-    let second = byte_at(bytes, SECOND_LENGTH) as usize;
-    let size = first + second;
+    let Kind::Frame = Kind::from(byte_at(bytes, 0)) else {
+        return Err(Refusal::KindUnknown);
+    };
+    let Some(runs) = lengths_in(bytes) else {
+        return Err(Refusal::RecordWrong);
+    };
+    let size = runs.first + runs.response;
     if out.len() < size {
-        return Told::Refused(OUTPUT_SHORT);
+        return Err(Refusal::OutputShort);
     }
-    let end = RUNS_AT + size;
-    put_runs(&bytes[RUNS_AT..end], out);
-    Told::Given { first, second }
+    out[..size].copy_from_slice(&bytes[RUNS_AT..RUNS_AT + size]);
+    Ok(runs)
 }
 
-// Tells what comes first in the part: the state is not moved.
-pub fn tell(state: StreamState, part: &[u8], out: &mut [u8]) -> Told
-    ensures told { told_of result ≡ runs_told (told_within (position_of state) part.now (length out.old)) }
-    ensures left { out.new ≡ out_told (told_within (position_of state) part.now (length out.old)) out.old }
-{
-    let reached = reach(sound(state), part);
-    let there = reached.state;
-    let held = there.held;
-    let count = there.count;
-    if !is_telling(count, held[0]) {
-        return Told::Nothing;
+impl StreamState {
+    // Tells what comes first in the part: the length of each run of a frame, or a refusal. The state is not moved.
+    pub fn tell(self, part: &[u8], out: &mut [u8]) -> Result<Option<Runs>, Refusal>
+        ensures told { told_of result ≡ runs_told (told_within (position_of self) part.now (length out.old)) }
+        ensures left { out.new ≡ out_told (told_within (position_of self) part.now (length out.old)) out.old }
+    {
+        let there = reach(self.sound(), part).state;
+        if !there.is_telling() {
+            return Ok(None);
+        }
+        let runs = give(&there.held[..there.count], out)?;
+        Ok(Some(runs))
     }
-    give(&held[..count], out)
-}
 
-// The bytes that the telling call takes, and the state behind them.
-pub fn advance(state: StreamState, part: &[u8]) -> Advanced
-    ensures { advanced_of result ≡ record { position = after (position_of state) part.now; taken = taken (position_of state) part.now } }
-{
-    let reached = reach(sound(state), part);
-    let there = reached.state;
-    Advanced {
-        taken: reached.taken,
-        state: passed(there),
+    // The bytes that the telling call takes, and the state behind them.
+    pub fn advance(self, part: &[u8]) -> Advanced
+        ensures { advanced_of result ≡ record { position = after (position_of self) part.now; taken = taken (position_of self) part.now } }
+    {
+        let reached = reach(self.sound(), part);
+        Advanced {
+            taken: reached.taken,
+            state: reached.passed(),
+        }
     }
-}
 
-// The refusal of a stream that ends in this state, or 0.
-pub fn end_refusal(state: StreamState) -> u8
-    ensures { result ≡ end_refusal (position_of state) }
-{
-    let begun = sound(state);
-    if begun.stopped {
-        return NO_REFUSAL;
+    // The refusal of a stream that ends in this state.
+    #[tactic(auto, using(crate::proofs::reader::Laws::end_none, crate::proofs::reader::Laws::end_begun))]
+    pub fn end_refusal(self) -> Result<(), Refusal>
+        ensures { told_by number_of result ≡ end_refusal (position_of self) }
+    {
+        let begun = self.sound().state;
+        if begun.stopped || begun.count == 0 {
+            Ok(())
+        } else {
+            Err(Refusal::Cut)
+        }
     }
-    if begun.count == 0 {
-        return NO_REFUSAL;
-    }
-    STREAM_CUT
 }

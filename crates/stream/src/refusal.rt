@@ -1,10 +1,23 @@
 // The refusals of the adapter's stream by their numbers: document 02, K4.
+ghost use Rattle.std.specs.Prelude.{◌≡◌};
+ghost use Rattle.stream.specs.Refusal.{number_of};
 
-// "unknown kind (that byte is taken)"
-pub const STREAM_KIND_UNKNOWN: u8 = 60;
+#[derive(Clone, Copy, Debug, PartialEq, Eq)]
+pub enum Refusal {
+    // "lent output shorter than the result": document 01's
+    OutputShort = 8,
+    // "unknown kind (that byte is taken)"
+    KindUnknown = 60,
+    // "lengths over 12 together or unused bytes not zero"
+    RecordWrong = 61,
+    // "stream ended inside a record"
+    Cut = 62,
+}
 
-// "lengths over 12 together or unused bytes not zero"
-pub const STREAM_RECORD_WRONG: u8 = 61;
-
-// "stream ended inside a record"
-pub const STREAM_CUT: u8 = 62;
+impl Refusal {
+    pub fn number(self) -> u8
+        ensures { result ≡ number_of self }
+    {
+        self as u8
+    }
+}

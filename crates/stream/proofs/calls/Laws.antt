@@ -1,8 +1,7 @@
 -- Laws of calls one after the other, for every form of state that gives a position back.
-use Rattle.std.proofs.Common.{◌≡◌, ℕ, zero, suc, ◌+◌, ◌^◌, ◌<◌, ◌≤◌, true, false, List, [], ◌∷◌, ◌++◌, length, take, drop, replicate, sym, refl, ap}
+use Rattle.std.proofs.Common.{◌≡◌, ℕ, zero, suc, ◌+◌, ◌^◌, ◌<◌, ◌≤◌, true, false, List, [], ◌∷◌, ◌++◌, length, take, drop, replicate, sym, refl, ap, None, Some}
 use Rattle.std.proofs.Common.{◌∙◌, subst, inl, inr, ⊎_elim, append_assoc, append-nil, not-suc-le-zero, mod-lt, arith, length-drop, take-append-drop}
 use Rattle.std.proofs.Common.{take_all}
-use mathlib.Core.Option.{none, some}
 use lib.Seq.{drop-append-le}
 use Rattle.frame.specs.Frame.{most_bytes}
 use Rattle.frame.proofs.bytes.Laws.{cases}
@@ -74,8 +73,8 @@ module _ {S : Type 0} (f : Form S) {start : S} (keeps : Keeping f start) where
   pub call_tells :
       (s : S) (part : List ℕ) (room : ℕ) (e : Event)
       → BetweenCalls (f.view s)
-      → (call f s part room).event ≡ some e
-      → (told (f.view s) part ≡ some e) × (f.view (call f s part room).state ≡ after (f.view s) part)
+      → (call f s part room).event ≡ Some e
+      → (told (f.view s) part ≡ Some e) × (f.view (call f s part room).state ≡ after (f.view s) part)
   unfolding call
   call_tells s part room e g h =
       let p = f.view s in
@@ -126,7 +125,7 @@ module _ {S : Type 0} (f : Form S) {start : S} (keeps : Keeping f start) where
       (s : S) (part : List ℕ) (room : ℕ)
       → BetweenCalls (f.view s)
       → (f.view s).stopped ≡ true
-      → ((call f s part room).event ≡ none) × ((call f s part room).taken ≡ 0) × (f.view (call f s part room).state ≡ f.view s)
+      → ((call f s part room).event ≡ None) × ((call f s part room).taken ≡ 0) × (f.view (call f s part room).state ≡ f.view s)
   unfolding call
   idle_call s part room g e =
       let p = f.view s in

@@ -1,6 +1,5 @@
 -- After refusal 60 there is no more.
-use Rattle.std.proofs.Common.{◌≡◌, ℕ, true, List, sym, refl, ap, ◌∙◌, subst, arith, ne_eqb}
-use mathlib.Core.Option.{some}
+use Rattle.std.proofs.Common.{◌≡◌, ℕ, true, List, sym, refl, ap, ◌∙◌, subst, arith, ne_eqb, Some}
 use Rattle.frame.specs.Refusal.{refused}
 use Rattle.stream.specs.Refusal.{stream_kind_unknown, stream_record_wrong}
 use Rattle.stream.specs.Record.{frame_kind, tick_kind, kind_of, is_unknown_kind, tells}
@@ -14,15 +13,15 @@ use Rattle.stream.proofs.reader.Events.{event_is}
 use Rattle.stream.proofs.calls.Laws.{between_after, call_tells, idle}
 
 -- Only an unknown kind tells 60.
-unknown_kind_lem : (r : List ℕ) → tells r ≡ some (refused stream_kind_unknown) → is_unknown_kind (kind_of r) ≡ true
+unknown_kind_lem : (r : List ℕ) → tells r ≡ Some (refused stream_kind_unknown) → is_unknown_kind (kind_of r) ≡ true
 unknown_kind_lem r e =
     told_by r (refused stream_kind_unknown) e (λ k w h. absurd (let z : ◌≡◌ {A = ℕ} 0 1 = cc in omega arith))
     (λ k h. absurd (let z : ◌≡◌ {A = ℕ} stream_record_wrong stream_kind_unknown = cc in omega arith))
     (λ f t h. rw (ne_eqb (kind_of r) frame_kind f, ne_eqb (kind_of r) tick_kind t) refl)
 
-stops_there : (p : Position) (e : Event) → event_at p ≡ some e → e.told ≡ refused stream_kind_unknown → (passed p).stopped ≡ true
+stops_there : (p : Position) (e : Event) → event_at p ≡ Some e → e.told ≡ refused stream_kind_unknown → (passed p).stopped ≡ true
 unfolding passed
-stops_there p e h sixty = let told = event_is p e h in rw told.whole (unknown_kind_lem p.begun (told.record_tells ∙ ap some sixty))
+stops_there p e h sixty = let told = event_is p e h in rw told.whole (unknown_kind_lem p.begun (told.record_tells ∙ ap Some sixty))
 
 module _ {S : Type 0} (f : Form S) {start : S} (keeps : Keeping f start) where
   no_more : (s : S) → BetweenCalls (f.view s) → (f.view s).stopped ≡ true → NoMore f s
@@ -38,7 +37,7 @@ module _ {S : Type 0} (f : Form S) {start : S} (keeps : Keeping f start) where
   pub after_sixty :
       (s : S) (part : List ℕ) (room : ℕ) (e : Event)
       → BetweenCalls (f.view s)
-      → (call f s part room).event ≡ some e
+      → (call f s part room).event ≡ Some e
       → e.told ≡ refused stream_kind_unknown
       → NoMore f (call f s part room).state
   after_sixty s part room e g h sixty =

@@ -1,7 +1,6 @@
 -- A stream byte by byte, from any position: what joins one call to the stream read at once.
-use Rattle.std.proofs.Common.{◌≡◌, ℕ, zero, suc, ◌<◌, ◌≤◌, Bool, true, false, cond, List, [], ◌∷◌, ◌++◌, length, take, drop, sym, refl, ap, ◌∙◌}
+use Rattle.std.proofs.Common.{◌≡◌, ℕ, zero, suc, ◌<◌, ◌≤◌, Bool, true, false, cond, List, [], ◌∷◌, ◌++◌, length, take, drop, sym, refl, ap, ◌∙◌, Option, None}
 use Rattle.std.proofs.Common.{append-nil, not-suc-le-zero, arith, length-append, take_at, drop_at, le-ltb}
-use mathlib.Core.Option.{Option, none}
 use lib.ListN.{get_or-append}
 use lib.Seq.{append_snoc}
 use Rattle.frame.proofs.bytes.Laws.{cases}
@@ -33,7 +32,7 @@ unfolding flow event_at passed
 flow_on p b s e = rw e refl
 
 -- A partial record tells nothing and is not passed.
-pub open_event : (p : Position) → partial p.begun ≡ true → event_at p ≡ none
+pub open_event : (p : Position) → partial p.begun ≡ true → event_at p ≡ None
 unfolding event_at
 open_event p o = rw o refl
 
@@ -93,7 +92,7 @@ end_open : (p : Position) → p.stopped ≡ false → end_place p ≡ cut_at p.p
 unfolding end_place
 end_open p e = rw e refl
 
-pub end_stopped : (p : Position) → p.stopped ≡ true → end_place p ≡ none
+pub end_stopped : (p : Position) → p.stopped ≡ true → end_place p ≡ None
 unfolding end_place
 end_stopped p e = rw e refl
 

@@ -1,8 +1,7 @@
 -- Laws of what a whole record gives, with so much lent output.
+use Rattle.std.specs.Option.{option_map}
 use Rattle.std.proofs.Common.{◌≡◌, ℕ, ◌+◌, ◌<◌, ◌≤◌, Bool, true, false, cond, ltb, List, ◌++◌, length, take, drop, sym, refl, ap, ◌∙◌, arith}
-use Rattle.std.proofs.Common.{length-take-le, le-ltb, lt-ltb}
-use mathlib.Core.Option.{Option, none, some}
-use mathlib.Core.Option.{map}
+use Rattle.std.proofs.Common.{length-take-le, le-ltb, lt-ltb, Option, None, Some}
 use Rattle.frame.specs.Bytes.{placed}
 use Rattle.frame.specs.Frame.{Frame, frame_size, Runs}
 use Rattle.frame.specs.Refusal.{Outcome, refused, accepted, output_short}
@@ -11,7 +10,8 @@ use Rattle.stream.specs.Record.{frame_kind, frame_record_size, kind_of, first_le
 use Rattle.stream.specs.declared.state.StreamState.{StreamState}
 use Rattle.stream.specs.Stream.{Event}
 use Rattle.stream.specs.Reader.{Position, is_telling, event_at, reach, within, told_within, runs_told, out_told}
-use Rattle.stream.specs.Inner.{standing, StandsAt, WholeRecord}
+use Rattle.stream.specs.Inner.{standing, WholeRecord}
+use Rattle.stream.proofs.state.Laws.{StandsAt}
 use Rattle.stream.proofs.record.Laws.{size_frame, whole_size_lem, fit_within, tells_unknown, tells_frame, first_size, second_size, runs_joined}
 use Rattle.stream.proofs.reader.Laws.{telling, not_told, is_told}
 
@@ -21,27 +21,27 @@ told_so out h = (ap runs_told (sym h), ap (λ (x : Option (Outcome Frame)). out_
 
 pub given_told :
     {e : Option (Outcome Frame)} {f : Frame} {first second : ℕ} {out' : List ℕ} (out : List ℕ)
-    → e ≡ some (accepted f)
+    → e ≡ Some (accepted f)
     → first ≡ length f.first
     → second ≡ length f.response
     → out' ≡ placed out 0 (f.first ++ f.response)
-    → (◌≡◌ {A = Option (Outcome Runs)} (some (accepted (record { first = first; response = second }))) (runs_told e)) × (out' ≡ out_told e out)
+    → (◌≡◌ {A = Option (Outcome Runs)} (Some (accepted (record { first = first; response = second }))) (runs_told e)) × (out' ≡ out_told e out)
 given_told out h a b o =
-    let so = told_so out h in ((λ i. some (accepted (record { first = a i; response = b i }))) ∙ so.0, o ∙ so.1)
+    let so = told_so out h in ((λ i. Some (accepted (record { first = a i; response = b i }))) ∙ so.0, o ∙ so.1)
 
 module _ (r : List ℕ) (room : ℕ) (w : WholeRecord r) where
-  pub gives_unknown : (kind_of r ≡ frame_kind → ⊥) → map (within room) (tells r) ≡ some (refused stream_kind_unknown)
-  gives_unknown f = ap (map (within room)) (tells_unknown r w.no_tick f)
+  pub gives_unknown : (kind_of r ≡ frame_kind → ⊥) → option_map (within room) (tells r) ≡ Some (refused stream_kind_unknown)
+  gives_unknown f = ap (option_map (within room)) (tells_unknown r w.no_tick f)
 
   module _ (f : kind_of r ≡ frame_kind) where
     pub whole_frame_lem : length r ≡ frame_record_size
     whole_frame_lem = omega (arith, w.whole, w.most, size_frame (kind_of r) f)
 
-    tells_by : (t : Bool) → runs_fit r ≡ t → tells r ≡ some (cond t (accepted (runs_in r)) (refused stream_record_wrong))
-    tells_by t e = tells_frame r f ∙ ap (λ (b : Bool). some (cond b (accepted (runs_in r)) (refused stream_record_wrong))) e
+    tells_by : (t : Bool) → runs_fit r ≡ t → tells r ≡ Some (cond t (accepted (runs_in r)) (refused stream_record_wrong))
+    tells_by t e = tells_frame r f ∙ ap (λ (b : Bool). Some (cond b (accepted (runs_in r)) (refused stream_record_wrong))) e
 
-    pub gives_wrong : runs_fit r ≡ false → map (within room) (tells r) ≡ some (refused stream_record_wrong)
-    gives_wrong e = ap (map (within room)) (tells_by false e)
+    pub gives_wrong : runs_fit r ≡ false → option_map (within room) (tells r) ≡ Some (refused stream_record_wrong)
+    gives_wrong e = ap (option_map (within room)) (tells_by false e)
 
     module _ (e : runs_fit r ≡ true) where
       both_sizes : frame_size (runs_in r) ≡ first_length r + second_length r
@@ -50,14 +50,14 @@ module _ (r : List ℕ) (room : ℕ) (w : WholeRecord r) where
       gives_by :
           (t : Bool)
           → ltb room (frame_size (runs_in r)) ≡ t
-          → map (within room) (tells r) ≡ some (cond t (refused output_short) (accepted (runs_in r)))
+          → option_map (within room) (tells r) ≡ Some (cond t (refused output_short) (accepted (runs_in r)))
       gives_by t h =
-          ap (map (within room)) (tells_by true e) ∙ ap (λ (b : Bool). some (cond b (refused output_short) (accepted (runs_in r)))) h
+          ap (option_map (within room)) (tells_by true e) ∙ ap (λ (b : Bool). Some (cond b (refused output_short) (accepted (runs_in r)))) h
 
-      pub gives_short : room < first_length r + second_length r → map (within room) (tells r) ≡ some (refused output_short)
+      pub gives_short : room < first_length r + second_length r → option_map (within room) (tells r) ≡ Some (refused output_short)
       gives_short l = gives_by true (lt-ltb room (frame_size (runs_in r)) (omega (arith, l, both_sizes)))
 
-      pub gives_frame : first_length r + second_length r ≤ room → map (within room) (tells r) ≡ some (accepted (runs_in r))
+      pub gives_frame : first_length r + second_length r ≤ room → option_map (within room) (tells r) ≡ Some (accepted (runs_in r))
       gives_frame l = gives_by false (le-ltb room (frame_size (runs_in r)) (omega (arith, l, both_sizes)))
 
       pub runs_placed :
@@ -67,9 +67,9 @@ module _ (r : List ℕ) (room : ℕ) (w : WholeRecord r) where
 
 -- What a call answers, from the state that it reaches.
 module _ (p : Position) (part : List ℕ) (room : ℕ) {s : StreamState} (w : StandsAt s (reach p part).position) where
-  pub answers_nothing : is_telling (standing s) ≡ false → told_within p part room ≡ none
+  pub answers_nothing : is_telling (standing s) ≡ false → told_within p part room ≡ None
   answers_nothing t =
-      ap (map (λ (e : Event). within room e.told)) (not_told (reach p part).position (ap is_telling (sym w.position) ∙ t))
+      ap (option_map (λ (e : Event). within room e.told)) (not_told (reach p part).position (ap is_telling (sym w.position) ∙ t))
 
   module _ (t : is_telling (standing s) ≡ true) where
     pub whole_reached : WholeRecord (standing s).begun
@@ -81,15 +81,15 @@ module _ (p : Position) (part : List ℕ) (room : ℕ) {s : StreamState} (w : St
           no_tick = told.1;
         }
 
-    pub answers_record : told_within p part room ≡ map (within room) (tells (standing s).begun)
+    pub answers_record : told_within p part room ≡ option_map (within room) (tells (standing s).begun)
     answers_record =
-        ap (λ (q : Position). map (λ (e : Event). within room e.told) (event_at q)) (sym w.position)
-        ∙ ap (map (λ (e : Event). within room e.told)) (is_told (standing s) t)
+        ap (λ (q : Position). option_map (λ (e : Event). within room e.told) (event_at q)) (sym w.position)
+        ∙ ap (option_map (λ (e : Event). within room e.told)) (is_told (standing s) t)
         ∙ unplaced (tells (standing s).begun)
       where
         unplaced :
             (o : Option (Outcome Frame))
-            → map (λ (e : Event). within room e.told) (map (λ (x : Outcome Frame). record { place = s.place; told = x }) o)
-            ≡ map (within room) o
-        unplaced none = refl
-        unplaced (some x) = refl
+            → option_map (λ (e : Event). within room e.told) (option_map (λ (x : Outcome Frame). record { place = s.place; told = x }) o)
+            ≡ option_map (within room) o
+        unplaced None = refl
+        unplaced (Some x) = refl

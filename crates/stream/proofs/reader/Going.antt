@@ -1,21 +1,36 @@
 -- Laws of a call's loop.
-use Rattle.std.proofs.Common.{◌≡◌, ℕ, suc, ◌+◌, ◌<◌, ◌≤◌, Bool, true, false, cond, List, length, get_or, drop, sym, refl, ap, ◌∙◌, subst, inl, inr}
-use Rattle.std.proofs.Common.{⊎_elim, add-one, arith, drop_of_length-le, drop-cons}
-use Rattle.frame.proofs.bytes.Laws.{cases}
+use Rattle.std.proofs.Common.{◌≡◌, ℕ, suc, ◌+◌, ◌<◌, ◌≤◌, true, false, cond, ◌⊎◌, ⊎_elim, List, length, get_or, take, drop, sym, refl, ap, ◌∙◌, subst}
+use Rattle.std.proofs.Common.{add-one, arith, length-take, drop_of_length-le, drop-cons}
 use Rattle.stream.specs.declared.state.StreamState.{StreamState}
 use Rattle.stream.specs.Record.{kind_of, partial}
 use Rattle.stream.specs.Stream.{place_behind}
 use Rattle.stream.specs.Reader.{Position, Reached, with_byte, passed, is_telling, one_more, reach}
-use Rattle.stream.specs.Inner.{is_open, is_to_tell, standing, StandsAt, Reaches, further, Going, OnTheWay}
+use Rattle.stream.specs.Inner.{is_open, is_to_tell, standing}
+use Rattle.stream.proofs.state.Laws.{StandsAt}
 use Rattle.stream.proofs.reader.Laws.{stands_on, telling_is, reach_none, reach_stopped, reach_tells, reach_on, passed_partial, passed_on}
+
+-- What a call takes, and where its state stands, are what it reaches.
+pub record Reaches (n : ℕ) (s : StreamState) (r : Reached) : Type 0 where
+  pub taken : n ≡ r.taken
+  pub stands : StandsAt s r.position
+
+-- In a call's loop: what the whole part reaches is reached from here, so many bytes on; no whole record is held, and reading goes on.
+abbrev pub further : ℕ → Reached → Reached
+further i r = record { position = r.position; taken = i + r.taken }
+
+pub record Going (p : Position) (part : List ℕ) (s : StreamState) (i : ℕ) : Type 0 where
+  pub stands : StandsAt s (standing s)
+  pub open_record : partial (standing s).begun ≡ true
+  pub goes_on : s.stopped ≡ false
+  pub reached : reach p part ≡ further i (reach (standing s) (drop i part))
 
 -- Once reading has stopped nothing is taken.
 pub stays :
     (s : StreamState) (part : List ℕ)
     → StandsAt s (standing s)
     → s.stopped ≡ true
-    → Reaches (record { taken = 0; state = s }) (reach (standing s) part)
-stays s part w e = subst (Reaches (record { taken = 0; state = s })) (sym (reach_stopped (standing s) part e)) (record { taken = refl; stands = w })
+    → Reaches 0 s (reach (standing s) part)
+stays s part w e = subst (Reaches 0 s) (sym (reach_stopped (standing s) part e)) (record { taken = refl; stands = w })
 
 pub going_begins :
     (s : StreamState) (part : List ℕ)
@@ -35,14 +50,14 @@ going_begins s part w o e =
     zero_more n = omega arith
 
 module _ {p : Position} {part : List ℕ} {s : StreamState} {i : ℕ} (g : Going p part s i) where
-  pub going_ends : length part ≤ i → Reaches (record { taken = i; state = s }) (reach p part)
+  pub going_ends : length part ≤ i → Reaches i s (reach p part)
   going_ends l =
       let none : reach p part ≡ further i (record { position = standing s; taken = 0 }) =
       g.reached ∙ ap (λ (u : List ℕ). further i (reach (standing s) u)) (drop_of_length-le part {i = i} l) ∙ ap (further i) (reach_none (standing s)) in
-      subst (Reaches (record { taken = i; state = s })) (sym none) (record { taken = omega arith; stands = g.stands })
+      subst (Reaches i s) (sym none) (record { taken = omega arith; stands = g.stands })
 
   module _ (l : i < length part) {s' : StreamState} (w : StandsAt s' (with_byte (standing s) (get_or part i 0))) where
-    pub going_tells : is_telling (standing s') ≡ true → Reaches (record { taken = i + 1; state = s' }) (reach p part)
+    pub going_tells : is_telling (standing s') ≡ true → Reaches (i + 1) s' (reach p part)
     going_tells t =
         let b = get_or part i 0 in
         let told = ap is_telling (sym w.position) ∙ t in
@@ -50,7 +65,7 @@ module _ {p : Position} {part : List ℕ} {s : StreamState} {i : ℕ} (g : Going
         g.reached
         ∙ ap (λ (u : List ℕ). further i (reach (standing s) u)) (drop-cons part i 0 l)
         ∙ ap (further i) (reach_tells (standing s) b (drop (suc i) part) g.goes_on told) in
-        subst (Reaches (record { taken = i + 1; state = s' })) (sym there) (record { taken = refl; stands = w })
+        subst (Reaches (i + 1) s') (sym there) (record { taken = refl; stands = w })
 
     pub going_on :
         {s'' : StreamState} → is_telling (standing s') ≡ false → StandsAt s'' (passed (standing s')) → Going p part s'' (i + 1)
@@ -77,51 +92,37 @@ module _ {p : Position} {part : List ℕ} {s : StreamState} {i : ℕ} (g : Going
             moved : (n : ℕ) → i + suc n ≡ i + 1 + n
             moved n = omega arith
 
--- From the beginning: nothing is ahead once reading has stopped.
-pub way_begins :
-    (s : StreamState) (part : List ℕ) {end : ℕ}
-    → StandsAt s (standing s)
-    → partial (standing s).begun ≡ true
-    → end ≡ cond s.stopped 0 (length part)
-    → OnTheWay (standing s) part s 0 end
-way_begins s part w o e =
-    cases s.stopped (λ t. inr (stays s part w t, e ∙ ap (λ (b : Bool). cond b 0 (length part)) t))
-    (λ f. inl (going_begins s part w o f, e ∙ ap (λ (b : Bool). cond b 0 (length part)) f))
-
-module _ {p : Position} {part : List ℕ} {s : StreamState} {i end : ℕ} (way : OnTheWay p part s i end) where
-  pub way_goes : i < end → Going p part s i × (end ≡ length part)
-  way_goes l = ⊎_elim (λ g. g) (λ there. absurd (let e = there.1 in omega (arith, l, e))) way
-
-  pub way_ends : end ≤ i → Reaches (record { taken = i; state = s }) (reach p part)
-  way_ends l = ⊎_elim (λ g. going_ends g.0 (let e = g.1 in omega (arith, l, e))) (λ there. there.0) way
-
--- One byte on: there, or behind it.
-pub way_on :
-    {p : Position} {part : List ℕ} {s : StreamState} {i end : ℕ}
-    → Going p part s i × (end ≡ length part)
+-- One byte on where nothing is to be told, by value.
+pub going_past :
+    {p : Position} {part : List ℕ} {s : StreamState} {i : ℕ}
+    → Going p part s i
     → i < length part
     → {s' : StreamState}
     → StandsAt s' (with_byte (standing s) (get_or part i 0))
-    → {t : Bool} {place count end' : ℕ}
-    → t ≡ is_to_tell s'.count (kind_of s'.held)
-    → place ≡ cond t s'.place (cond (is_open s'.count (kind_of s'.held)) s'.place (place_behind s'.place s'.count))
-    → count ≡ cond t s'.count (cond (is_open s'.count (kind_of s'.held)) s'.count 0)
-    → end' ≡ cond t (i + 1) end
-    → OnTheWay p part (record { place = place; stopped = s'.stopped; count = count; held = s'.held }) (i + 1) end'
-way_on {p} {part} {s} {i} {end} (g, all) l {s'} w {t} {place} {count} {end'} told e f h =
-    cases t
-    (λ yes.
-    let there = going_tells g l w (sym (telling_is s' w.room) ∙ sym told ∙ yes) in
-    let place-there : place ≡ s'.place = e ∙ rw yes refl in
-    let count_there : count ≡ s'.count = f ∙ rw yes refl in
-    let same : ◌≡◌ {A = StreamState} (record { place = place; stopped = s'.stopped; count = count; held = s'.held }) s' =
-    (λ k. record { place = place-there k; stopped = s'.stopped; count = count_there k; held = s'.held }) in
-    inr (subst (λ (x : StreamState). Reaches (record { taken = i + 1; state = x }) (reach p part)) (sym same) there, h ∙ rw yes refl))
-    (λ no.
-    let goes = ap (λ (q : Position). q.stopped) w.position ∙ g.goes_on in
-    let not_told = sym told ∙ no in
-    inl (
-      going_on g l w (sym (telling_is s' w.room) ∙ not_told)
-          (stands_on s' w.room w.within goes (sym not_told) (e ∙ rw no refl) (f ∙ rw no refl)),
-      h ∙ rw no refl ∙ all,
-    ))
+    → false ≡ is_to_tell s'.count (kind_of s'.held)
+    → {place count : ℕ}
+    → place ≡ cond (is_open s'.count (kind_of s'.held)) s'.place (place_behind s'.place s'.count)
+    → count ≡ cond (is_open s'.count (kind_of s'.held)) s'.count 0
+    → Going p part (record { place = place; stopped = s'.stopped; count = count; held = s'.held }) (i + 1)
+going_past g l {s'} w told e f =
+    going_on g l w (sym (telling_is s' w.room) ∙ sym told)
+    (stands_on s' w.room w.within (ap (λ (q : Position). q.stopped) w.position ∙ g.goes_on) told e f)
+
+-- In the loop: still on its way through the part, or there from the beginning, where reading has stopped.
+abbrev pub OnTheWay : Position → List ℕ → StreamState → ℕ → ℕ → Type 0
+OnTheWay p part s i end = (Going p part s i × (end ≡ length part)) ⊎ (Reaches i s (reach p part) × (end ≡ i))
+
+module _ {p : Position} {part : List ℕ} {s : StreamState} {i end : ℕ} (way : OnTheWay p part s i end) where
+  pub way_goes : i < length (take end part) → Going p part s i × (end ≡ length part)
+  way_goes l =
+      let most = length-take end part in ⊎_elim (λ g. g) (λ there. absurd (let e = there.1 in omega (arith, l, e, most))) way
+
+  pub way_ends : length (take end part) ≡ i → Reaches end s (reach p part)
+  way_ends l =
+      let most = length-take end part in
+      ⊎_elim
+      (λ (g : Going p part s i × (end ≡ length part)).
+      let all : i ≡ end = omega (arith, l, g.1, most) in
+      subst (λ (n : ℕ). Reaches n s (reach p part)) all (going_ends g.0 (omega (arith, all, g.1))))
+      (λ (there : Reaches i s (reach p part) × (end ≡ i)). subst (λ (n : ℕ). Reaches n s (reach p part)) (sym there.1) there.0)
+      way

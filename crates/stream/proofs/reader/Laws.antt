@@ -1,16 +1,16 @@
 -- Laws of a call: what its steps are by value.
-use Rattle.std.proofs.Common.{◌≡◌, ℕ, ◌+◌, ◌<◌, ◌≤◌, Bool, true, false, cond, not, ◌&&◌, eqb, List, [], ◌∷◌, length, take, set, sym, refl, ap, ◌∙◌}
-use Rattle.std.proofs.Common.{subst, add-one, arith, length-set, length-take-le, take-suc-set, ne_eqb, eqb-true}
+use Rattle.std.proofs.Common.{◌≡◌, ℕ, ◌+◌, ◌<◌, ◌≤◌, Bool, true, false, cond, not, ◌&&◌, eqb, List, [], ◌∷◌, length, take, set, sym, refl, ap, ◌∙◌, None}
+use Rattle.std.proofs.Common.{◌⊎◌, ⊎_elim, subst, add-one, arith, length-set, length-take-le, take-suc-set, ne_eqb, eqb-true}
 use borrow.Author.Tests.{not-false, eqb-false}
-use mathlib.Core.Option.{none}
 use Rattle.stream.specs.declared.state.StreamState.{StreamState}
 use Rattle.stream.specs.Record.{frame_record_size, tick_kind, kind_of, is_unknown_kind, partial}
 use Rattle.stream.specs.Stream.{place_behind, event_of}
 use Rattle.stream.specs.Reader.{Position, Reached, with_byte, passed, is_telling, event_at, one_more, reach, end_place, end_refusal}
-use Rattle.stream.specs.Inner.{is_open, is_to_tell, standing, StandsAt}
+use Rattle.stream.specs.Inner.{is_open, is_to_tell, standing}
 use Rattle.frame.specs.Refusal.{no_refusal}
 use Rattle.frame.proofs.bytes.Laws.{cases}
 use Rattle.stream.specs.Refusal.{stream_cut}
+use Rattle.stream.proofs.state.Laws.{StandsAt}
 use Rattle.stream.proofs.record.Laws.{tick_known, kind_of_lem, no_bytes, partial_of, tells_tick}
 
 module _ (s : StreamState) (room : length s.held ≡ frame_record_size) where
@@ -177,7 +177,7 @@ passed_on p t e =
     rw q (tick_known (kind_of p.begun) tick))
 
 -- Where nothing is telling there is no event; else the event is what the record tells.
-pub not_told : (p : Position) → is_telling p ≡ false → event_at p ≡ none
+pub not_told : (p : Position) → is_telling p ≡ false → event_at p ≡ None
 unfolding is_telling event_at
 not_told p t =
     cases (partial p.begun) (λ q. rw q refl)
@@ -208,17 +208,13 @@ module _ {s : StreamState} {p : Position} (w : StandsAt s p) where
   stopped_there = ap (λ (q : Position). q.stopped) w.position
 
   count_there : s.count ≡ length p.begun
-  count_there =
-      sym (length-take-le s.count s.held (omega (arith, w.room, w.within)))
-      ∙ ap (λ (q : Position). length q.begun) w.position
+  count_there = sym (length-take-le s.count s.held (omega (arith, w.room, w.within))) ∙ ap (λ (q : Position). length q.begun) w.position
 
-  pub end_stopped : s.stopped ≡ true → no_refusal ≡ end_refusal p
+  pub end_none : (s.stopped ≡ true) ⊎ ((s.stopped ≡ false) × (s.count ≡ 0)) → no_refusal ≡ end_refusal p
   unfolding end_place
-  end_stopped e = rw (sym stopped_there ∙ e) refl
-
-  pub end_none : s.stopped ≡ false → s.count ≡ 0 → no_refusal ≡ end_refusal p
-  unfolding end_place
-  end_none e z = rw (sym stopped_there ∙ e, sym count_there ∙ z) refl
+  end_none e =
+      ⊎_elim (λ (t : s.stopped ≡ true). rw (sym stopped_there ∙ t) refl)
+      (λ (z : (s.stopped ≡ false) × (s.count ≡ 0)). rw (sym stopped_there ∙ z.0, sym count_there ∙ z.1) refl) e
 
   pub end_begun : s.stopped ≡ false → (s.count ≡ 0 → ⊥) → stream_cut ≡ end_refusal p
   unfolding end_place

@@ -1,27 +1,43 @@
 -- Laws of records: how long they are, and when bytes are all of one.
-use Rattle.std.proofs.Common.{◌≡◌, ℕ, zero, suc, ◌+◌, ◌-◌, ◌<◌, ◌≤◌, Bool, true, false, cond, not, ◌&&◌, eqb, ltb, leb, List, [], ◌∷◌, ◌++◌, length}
-use Rattle.std.proofs.Common.{get_or, take, drop, sym, refl, ap, ◌∙◌, arith, length-append, length-drop, length-take-le, take_all, drop-cons}
+use Rattle.std.proofs.Common.{◌≡◌, ℕ, zero, suc, ◌+◌, ◌<◌, ◌≤◌, Bool, true, false, cond, not, ◌&&◌, eqb, ltb, leb, List, [], ◌∷◌, ◌++◌, length, None, Some}
+use Rattle.std.proofs.Common.{take, drop, sym, refl, ap, ◌∙◌, arith, length-append, length-drop, length-take-le, take_all}
 use Rattle.std.proofs.Common.{drop-drop, take-add, ltb-false, ltb-true, le-ltb, lt-ltb, ne_eqb, eqb-true, le-leb, leb-true}
 use borrow.Author.Tests.{lt-leb, eqb-false}
-use mathlib.Core.Option.{none, some}
+use Rattle.frame.specs.Bytes.{all_zero}
 use Rattle.frame.specs.Frame.{Frame, most_bytes}
 use Rattle.frame.specs.Refusal.{Outcome, refused, accepted}
 use Rattle.frame.proofs.bytes.Laws.{cases}
+use Rattle.stream.specs.declared.record.Kind.TheVariants as kinds
+use Rattle.stream.specs.Inner.{kind_at, size_of}
 use Rattle.stream.specs.Record.{frame_kind, tick_kind, frame_record_size, tick_record_size, kind_of, is_unknown_kind, whole_size, partial}
-use Rattle.stream.specs.Record.{first_length, second_length, runs_at, runs_in, all_zero, runs_fit, tells}
+use Rattle.stream.specs.Record.{first_length, second_length, runs_at, runs_in, runs_fit, tells}
 use Rattle.stream.specs.Refusal.{stream_kind_unknown, stream_record_wrong}
 
 pub size_frame : (k : ℕ) → k ≡ frame_kind → whole_size k ≡ frame_record_size
 unfolding whole_size
 size_frame k e = ap whole_size e
 
-pub size_tick : (k : ℕ) → k ≡ tick_kind → whole_size k ≡ tick_record_size
-unfolding whole_size
-size_tick k e = ap whole_size e
-
 pub size_unknown : (k : ℕ) → (k ≡ frame_kind → ⊥) → (k ≡ tick_kind → ⊥) → whole_size k ≡ 1
 unfolding whole_size
 size_unknown k f t = rw (ne_eqb k frame_kind f, ne_eqb k tick_kind t)
+
+-- The kind that a byte is has records as long.
+pub size_kind : (k : ℕ) → size_of (kind_at k) ≡ whole_size k
+unfolding whole_size
+size_kind k = go (eqb k frame_kind) (eqb k tick_kind)
+  where
+    go : (f t : Bool) → size_of (cond f kinds.Frame (cond t kinds.Tick kinds.Unknown)) ≡ cond f frame_record_size (cond t tick_record_size 1)
+    go true t = refl
+    go false true = refl
+    go false false = refl
+
+pub frame_at : (k : ℕ) → kinds.Frame ≡ kind_at k → k ≡ frame_kind
+frame_at k e = go (eqb k frame_kind) (eqb k tick_kind) refl e
+  where
+    go : (f t : Bool) → eqb k frame_kind ≡ f → kinds.Frame ≡ cond f kinds.Frame (cond t kinds.Tick kinds.Unknown) → k ≡ frame_kind
+    go true t u e = eqb-true k frame_kind u
+    go false true u e = cc
+    go false false u e = cc
 
 pub tick_known : (k : ℕ) → eqb k tick_kind ≡ true → is_unknown_kind k ≡ false
 tick_known k t = rw t (and_false (not (eqb k frame_kind)))
@@ -82,24 +98,11 @@ pub no_bytes : partial [] ≡ true
 unfolding partial whole_size
 no_bytes = refl
 
--- The bytes not yet looked at decide, as long as all before are zero.
-pub zero_past : (s : List ℕ) (i : ℕ) → i < length s → get_or s i 0 ≡ 0 → all_zero (drop i s) ≡ all_zero (drop (suc i) s)
-unfolding all_zero
-zero_past s i l z = rw (drop-cons s i 0 l, z)
-
-pub zero_not : (s : List ℕ) (i : ℕ) → i < length s → (get_or s i 0 ≡ 0 → ⊥) → all_zero (drop i s) ≡ false
-unfolding all_zero
-zero_not s i l z = rw (drop-cons s i 0 l, ne_eqb _ 0 z)
-
 -- The kind of a whole record held is that of the first byte.
 pub kind_of_lem : (h : List ℕ) (n : ℕ) → partial (take n h) ≡ false → kind_of (take n h) ≡ kind_of h
 kind_of_lem h zero e = absurd (let z : whole_size 0 ≤ 0 = whole_size_lem [] e in omega (arith, z, (size_within 0).0))
 kind_of_lem [] (suc n) e = refl
 kind_of_lem (b ∷ h) (suc n) e = refl
-
--- All bytes from a place on.
-pub take_behind : (r : List ℕ) (n : ℕ) → take (length r - n) (drop n r) ≡ drop n r
-take_behind r n = take_all (length r - n) (drop n r) (omega (arith, length-drop n r))
 
 -- Where the lengths are over twelve together the runs do not fit; else the unused bytes decide.
 pub fit_over : (r : List ℕ) → most_bytes < first_length r + second_length r → false ≡ runs_fit r
@@ -120,22 +123,22 @@ fit_within r e = leb-true _ _ (and_left (leb (first_length r + second_length r) 
     and_left false b e = e
 
 -- What a whole record tells, by its kind.
-pub tells_unknown : (r : List ℕ) → (kind_of r ≡ tick_kind → ⊥) → (kind_of r ≡ frame_kind → ⊥) → tells r ≡ some (refused stream_kind_unknown)
+pub tells_unknown : (r : List ℕ) → (kind_of r ≡ tick_kind → ⊥) → (kind_of r ≡ frame_kind → ⊥) → tells r ≡ Some (refused stream_kind_unknown)
 unfolding tells
 tells_unknown r t f = rw (ne_eqb (kind_of r) tick_kind t, ne_eqb (kind_of r) frame_kind f)
 
-pub tells_tick : (r : List ℕ) → kind_of r ≡ tick_kind → tells r ≡ none
+pub tells_tick : (r : List ℕ) → kind_of r ≡ tick_kind → tells r ≡ None
 unfolding tells
 tells_tick r t = rw t
 
-pub tells_frame : (r : List ℕ) → kind_of r ≡ frame_kind → tells r ≡ some (cond (runs_fit r) (accepted (runs_in r)) (refused stream_record_wrong))
+pub tells_frame : (r : List ℕ) → kind_of r ≡ frame_kind → tells r ≡ Some (cond (runs_fit r) (accepted (runs_in r)) (refused stream_record_wrong))
 unfolding tells
 tells_frame r f = rw f
 
 -- What it told, by cases: a frame's record that fits, one that does not, or an unknown kind.
 pub told_by :
     {A : Type 0} (r : List ℕ) (o : Outcome Frame)
-    → tells r ≡ some o
+    → tells r ≡ Some o
     → (kind_of r ≡ frame_kind → runs_fit r ≡ true → accepted (runs_in r) ≡ o → A)
     → (kind_of r ≡ frame_kind → refused stream_record_wrong ≡ o → A)
     → ((kind_of r ≡ frame_kind → ⊥) → (kind_of r ≡ tick_kind → ⊥) → refused stream_kind_unknown ≡ o → A)
@@ -148,7 +151,7 @@ told_by {A} r o e frame wrong unknown = go (eqb (kind_of r) tick_kind) (eqb (kin
         → eqb (kind_of r) tick_kind ≡ t
         → eqb (kind_of r) frame_kind ≡ f
         → runs_fit r ≡ w
-        → cond t none (cond f (some (cond w (accepted (runs_in r)) (refused stream_record_wrong))) (some (refused stream_kind_unknown))) ≡ some o
+        → cond t None (cond f (Some (cond w (accepted (runs_in r)) (refused stream_record_wrong))) (Some (refused stream_kind_unknown))) ≡ Some o
         → A
     go true f w x y z e = absurd (let n : ◌≡◌ {A = ℕ} 0 1 = cc in omega arith)
     go false true true x y z e = frame (eqb-true _ _ y) z cc

@@ -1,13 +1,16 @@
 -- Laws of the 24 bytes of a state.
-use Rattle.std.proofs.Common.{◌≡◌, ℕ, ◌+◌, ◌-◌, ◌<◌, ◌≤◌, min, Bool, cond, ltb, leb, List, [], ◌∷◌, ◌++◌, length, get_or, take, replicate, sym, refl}
-use Rattle.std.proofs.Common.{ap, ◌∙◌, append-nil, arith, length-append, length-take-le, take_all, get_or-take, get_or-append-add, ltb-false}
-use Rattle.std.proofs.Common.{ltb-true, leb-false, leb-true}
-use lib.ListN.{length-replicate, get_or-replicate, get_or-append}
-use lib.Seq.{paste, take-append-le}
+use Rattle.std.proofs.Common.{◌≡◌, ℕ, suc, ◌+◌, ◌-◌, ◌<◌, ◌≤◌, min, Bool, true, false, cond, leb, List, [], ◌∷◌, ◌++◌, length}
+use Rattle.std.proofs.Common.{get_or, set, take, drop, replicate, sym, refl}
+use Rattle.std.proofs.Common.{ap, ◌∙◌, arith, length-take-le, take_all, drop-drop}
+use Rattle.std.proofs.Common.{leb-false, leb-true}
+use Rattle.std.specs.Int.{w64, to_be_bytes}
+use Rattle.std.proofs.lemmas.List.{drop-replicate, take-take}
+use mir.Val.{bool_byte}
+use lib.Seq.{paste, paste-suc, take-append-le}
 use Rattle.frame.proofs.bytes.Laws.{cases}
 use Rattle.stream.specs.declared.state.StreamState.{StreamState}
 use Rattle.stream.specs.Record.{frame_record_size}
-use Rattle.stream.specs.State.{place_bytes, held_place, most_held, state_bytes, big_endian, bytes_of}
+use Rattle.stream.specs.State.{stopped_place, count_place, held_place, most_held, bytes_of}
 use Rattle.stream.specs.Inner.{standing}
 
 -- More than there are places for count as so many.
@@ -27,53 +30,45 @@ held_first held n b e =
         let all : take (min n m) u ≡ u = take_all (min n m) u (omega arith) in
         all ∙ sym (take_all n u (omega arith)))
 
--- The head, and the bytes held over its zeros, are the bytes of the state.
-abbrev pub head : ℕ → Bool → ℕ → List ℕ
-head place stopped count = big_endian place_bytes place ++ cond stopped 1 0 ∷ count ∷ replicate most_held 0
+-- One place more of the bytes that are put over others, as many as are held.
+module _ (d s : List ℕ) (n i : ℕ) {u : List ℕ} (so_far : u ≡ paste d held_place s (min i n)) where
+  pub put_on : {b : ℕ} → i < n → b ≡ get_or s i 0 → held_place + i < length d → i < length s → set u (held_place + i) b ≡ paste d held_place s (min (i + 1) n)
+  put_on l e h g =
+      let here : min i n ≡ i = omega arith in
+      let next : min (i + 1) n ≡ suc i = omega arith in
+      (λ k. set ((so_far ∙ ap (paste d held_place s) here) k) (held_place + i) (e k))
+      ∙ paste-suc d held_place s i 0 h g
+      ∙ ap (paste d held_place s) (sym next)
 
-pub head_size : (place : ℕ) (stopped : Bool) (count : ℕ) → length (head place stopped count) ≡ state_bytes
-unfolding big_endian
-head_size place stopped count = refl
+  pub put_past : n ≤ i → u ≡ paste d held_place s (min (i + 1) n)
+  put_past l = let same : min i n ≡ min (i + 1) n = omega arith in so_far ∙ ap (paste d held_place s) same
 
--- The bytes held, and zeros behind them.
-abbrev pub padded : ℕ → List ℕ → List ℕ
-padded count held = take count held ++ replicate (most_held - count) 0
+-- The bytes held, put over the zeros behind the place, the flag and the count, are the bytes of the state.
+abbrev pub head_of : StreamState → List ℕ
+head_of s = to_be_bytes w64 s.place ++ cond s.stopped 1 0 ∷ s.count ∷ replicate most_held 0
 
-module _ (count : ℕ) (held : List ℕ) (room : length held ≡ frame_record_size) (few : count ≤ most_held) where
-  held_size : length (take count held) ≡ count
-  held_size = length-take-le count held (omega (arith, room, few))
+flag : (t : Bool) → bool_byte t ≡ cond t 1 0
+flag true = refl
+flag false = refl
 
-  pub padded_size : length (padded count held) ≡ most_held
-  padded_size =
-      omega (arith, length-append (take count held) (replicate (most_held - count) 0), length-replicate {A = ℕ} (most_held - count) 0, held_size, few)
+-- As the code makes it, of zeros.
+abbrev pub over_zeros : List ℕ → StreamState → List ℕ
+over_zeros place s = set (set (place ++ replicate 16 0) stopped_place (bool_byte s.stopped)) count_place s.count
 
-  pub padded_at : (i : ℕ) → i < most_held → cond (ltb i count) (get_or held i 0) 0 ≡ get_or (padded count held) i 0
-  padded_at i l =
-      cases (ltb i count)
-      (λ e.
-      let h : i < count = ltb-true i count e in
-      rw e (sym (get_or-append (take count held) (replicate (most_held - count) 0) 0 i (omega (arith, held_size, h)) ∙ get_or-take count held i 0 h)))
-      (λ e.
-      let h : count ≤ i = ltb-false i count e in
-      let same : length (take count held) + (i - count) ≡ i = omega (arith, held_size, h) in
-      let zeros : List ℕ = replicate (most_held - count) 0 in
-      rw e
-      (sym
-      (ap (λ (k : ℕ). get_or (padded count held) k 0) (sym same)
-      ∙ get_or-append-add (take count held) zeros (i - count) 0
-      ∙ get_or-replicate (most_held - count) (i - count) 0 0 (omega (arith, l, h)))))
+pub is_head : (s : StreamState) {place : List ℕ} → place ≡ to_be_bytes w64 s.place → over_zeros place s ≡ head_of s
+is_head s e = (λ i. set (set (e i ++ replicate 16 0) stopped_place (flag s.stopped i)) count_place s.count)
 
-pub state_bytes_lem :
+pub bytes_put :
     (s : StreamState)
     → length s.held ≡ frame_record_size
     → s.count ≤ most_held
-    → paste (head s.place s.stopped s.count) held_place (padded s.count s.held) most_held ≡ bytes_of (standing s)
-unfolding big_endian bytes_of
-state_bytes_lem s room few =
-    let d = head s.place s.stopped s.count in
-    let all = take_all most_held (padded s.count s.held) (omega (arith, padded_size s.count s.held room few)) in
-    ap (λ (u : List ℕ). take held_place d ++ u ++ []) all
-    ∙ append-nil (take held_place d ++ padded s.count s.held)
-    ∙ ap
-    (λ (n : ℕ). big_endian place_bytes s.place ++ cond s.stopped 1 0 ∷ n ∷ (take s.count s.held ++ replicate (most_held - n) 0))
-    (sym (held_size s.count s.held room few))
+    → paste (head_of s) held_place (take most_held s.held) s.count ≡ bytes_of (standing s)
+unfolding bytes_of
+bytes_put s room few =
+    let size : length (take s.count s.held) ≡ s.count = length-take-le s.count s.held (omega (arith, room, few)) in
+    let held : take s.count (take most_held s.held) ≡ take s.count s.held = take-take s.count most_held s.held few in
+    let zeros : drop (held_place + s.count) (head_of s) ≡ replicate (most_held - length (take s.count s.held)) 0 =
+    sym (drop-drop s.count held_place (head_of s))
+    ∙ drop-replicate s.count most_held 0
+    ∙ ap (λ (n : ℕ). replicate (most_held - n) 0) (sym size) in
+    (λ i. to_be_bytes w64 s.place ++ cond s.stopped 1 0 ∷ sym size i ∷ (held i ++ zeros i))

@@ -1,17 +1,21 @@
 -- Laws of a state by value.
-use Rattle.std.proofs.Common.{◌≡◌, ℕ, ◌<◌, ◌≤◌, Bool, true, false, cond, List, [], map, length, take, sym, refl, ap, ◌∙◌, subst, arith}
+use Rattle.std.proofs.Common.{◌≡◌, ℕ, ◌<◌, ◌≤◌, Bool, true, false, cond, List, [], length, take, sym, refl, ap, ◌∙◌, arith}
 use Rattle.std.proofs.Common.{length-take-le, ltb-true}
-use lib.ListN.{length-map}
 use Rattle.frame.proofs.bytes.Laws.{cases}
 use Rattle.stream.specs.declared.state.StreamState.{StreamState}
 use Rattle.stream.specs.Record.{frame_record_size, kind_of, whole_size, partial}
 use Rattle.stream.specs.Reader.{Position, position_of}
-use Rattle.stream.specs.Inner.{is_open, standing, StandsAt}
+use Rattle.stream.specs.Inner.{is_open, standing}
 use Rattle.stream.proofs.record.Laws.{size_within, part_size, partial_of, no_bytes}
 
--- The room of an array, as a parameter tells it.
-pub room_of : (held : List ℕ) → length (map (λ (b : ℕ). b) held) ≡ frame_record_size → length held ≡ frame_record_size
-room_of held e = sym (length-map held (λ (b : ℕ). b)) ∙ e
+-- A state stands at a position: the bytes held are of one record, all of it at most.
+pub record StandsAt (s : StreamState) (p : Position) : Type 0 where
+  pub position : standing s ≡ p
+  pub room : length s.held ≡ frame_record_size
+  pub within : s.count ≤ frame_record_size
+
+pub itself : (s : StreamState) → length s.held ≡ frame_record_size → s.count ≤ frame_record_size → StandsAt s (standing s)
+itself s room within = record { position = refl; room = room; within = within }
 
 module _ (s : StreamState) (room : length s.held ≡ frame_record_size) where
   -- With none held where no partial record has them, a state stands where it is.
@@ -50,17 +54,6 @@ unfolding position_of
 at_position {s} {p} w o =
     let e : partial (standing s).begun ≡ true = ap (λ (q : Position). partial q.begun) w.position ∙ o in
     ap (λ (t : Bool). record { place = s.place; stopped = s.stopped; begun = cond t (take s.count s.held) [] }) e ∙ w.position
-
--- Where it stands, as a call's loop begins with it.
-pub begins :
-    {s : StreamState} {p : Position}
-    → StandsAt s p
-    → partial p.begun ≡ true
-    → StandsAt s (standing s) × (partial (standing s).begun ≡ true)
-begins w o = (
-  record { position = refl; room = w.room; within = w.within },
-  subst (λ (q : Position). partial q.begun ≡ true) (sym w.position) o,
-)
 
 -- A partial record leaves room for a byte.
 pub room_left : {s : StreamState} {p : Position} → StandsAt s p → partial (standing s).begun ≡ true → s.count < frame_record_size
