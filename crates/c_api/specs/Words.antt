@@ -1,9 +1,8 @@
 -- The number that each exported call answers: the refusal in its low byte, 0 for none, and what was accepted above it.
-use Rattle.std.specs.Prelude.{ℕ, ◌+◌, ◌*◌, ◌^◌}
-use Rattle.std.proofs.Math.Option.{Option, none, some}
+use Rattle.std.specs.Prelude.{ℕ, ◌+◌, ◌*◌, ◌^◌, Option, None, Some}
 use Rattle.frame.specs.Refusal.{Outcome, refused, accepted}
 use Rattle.frame.specs.Frame.{Sizes, Runs}
-use Rattle.catalogue.specs.declared.supplement.Checked.{Checked}
+use Rattle.catalogue.specs.Supplement.{Checked}
 use Rattle.report.specs.Answer.{Answer}
 use Rattle.report.specs.Answer as answer
 
@@ -41,6 +40,6 @@ report_word (answer.shown size) = size * byte1
 
 -- Byte 1 is 1 if a frame is given, byte 2 the length of its first run, byte 3 that of its second.
 abbrev pub stream_word : Option (Outcome Runs) → ℕ
-stream_word none = 0
-stream_word (some (refused n)) = n
-stream_word (some (accepted r)) = byte1 + r.first * byte2 + r.response * byte3
+stream_word None = 0
+stream_word (Some (refused n)) = n
+stream_word (Some (accepted r)) = byte1 + r.first * byte2 + r.response * byte3

@@ -1,28 +1,30 @@
-// The calls that c_api_c exports to C: numbers and byte slices in, one number out. include/rakhubole.h says them in words.
+// The calls that c_api_c exports to C, each bus with names of its own: numbers and byte slices in, one number out. include/rakhubole.h says
+// them in words.
 #![tactic(auto)]
 
-ghost use Rattle.std.specs.Prelude.{◌≡◌, length};
+ghost use Rattle.std.specs.Prelude.{◌≡◌, ◌<◌, length};
 ghost use Rattle.frame.specs.Frame.{sizes, reading_of, runs, writing_of, out_written};
 ghost use Rattle.frame.specs.Reader.{read_frame};
 ghost use Rattle.frame.specs.Writer.{write_frame};
 ghost use Rattle.frame.specs.Iso.{read_iso, write_iso};
-ghost use Rattle.catalogue.specs.Supplement.{check};
+ghost use Rattle.catalogue.specs.Supplement.{check, checked_of};
 ghost use Rattle.report.specs.Answer.{j1850_answer, iso_answer, sized, out_after, reported_of};
 ghost use Rattle.stream.specs.Reader.{told_within, runs_told, out_told, told_of, taken, after, end_refusal};
 ghost use Rattle.stream.specs.State.{position_in, bytes_of};
-ghost use Rattle.c_api.specs.Words.{read_word, write_word, check_word, report_word, stream_word};
-ghost use Rattle.c_api.specs.Inner.{SmallSizes, SmallRuns, SmallAnswer, SmallTold};
+ghost use Rattle.c_api.specs.Words.{byte3, read_word, write_word, check_word, report_word, stream_word};
+ghost use Rattle.c_api.specs.Inner.{SmallAnswer};
 
+use catalogue::refusal::Fault;
 use catalogue::supplement::check_supplement;
-use frame::frame::{Reading, Writing};
+use frame::frame::{Parts, Runs};
 use frame::iso::{read_iso, write_iso};
 use frame::reader::read_frame;
+use frame::refusal::Refusal;
 use frame::writer::write_frame;
-use report::answer::Reported;
-use stream::reader::{Told, advance, end_refusal, tell};
-use stream::state::{STATE_BYTES, bytes_of, state_of};
+use stream::state::{STATE_BYTES, StreamState};
 
-// What one counts for in bytes 1 to 4 of an answer; byte 0 is the refusal.
+// C takes one number for an answer: byte 0 is the refusal, and these are what one counts for in bytes 1 to 4. A place or a length of rows
+// has more than one byte, so a word is a sum, as its definition is.
 const BYTE_1: u64 = 0x100;
 
 const BYTE_2: u64 = 0x1_0000;
@@ -31,54 +33,56 @@ const BYTE_3: u64 = 0x100_0000;
 
 const BYTE_4: u64 = 0x1_0000_0000;
 
-fn read_word(reading: Reading) -> u64
-    requires { SmallSizes (reading_of reading) }
-    ensures { result ≡ read_word (reading_of reading) }
+fn read_word(reading: Result<Parts, Refusal>) -> u64
+    ensures { result ≡ read_word (sizes (reading_of reading.entry)) }
 {
     match reading {
-        Reading::Refused(n) => n as u64,
-        Reading::Accepted {
-            header,
-            body,
-            kind,
-            response,
-        } => {
-            header as u64 * BYTE_1
-                + body as u64 * BYTE_2
-                + kind as u64 * BYTE_3
-                + response as u64 * BYTE_4
+        Ok(parts) => {
+            parts.header.len() as u64 * BYTE_1
+                + parts.body.len() as u64 * BYTE_2
+                + parts.kind.number() as u64 * BYTE_3
+                + parts.response.len() as u64 * BYTE_4
         }
+        Err(refusal) => refusal.number() as u64,
     }
 }
 
-fn write_word(writing: Writing) -> u64
-    requires { SmallRuns (writing_of writing) }
+fn write_word(writing: Result<Runs, Refusal>) -> u64
     ensures { result ≡ write_word (writing_of writing) }
 {
     match writing {
-        Writing::Refused(n) => n as u64,
-        Writing::Written { first, response } => first as u64 * BYTE_1 + response as u64 * BYTE_2,
+        Ok(runs) => runs.first as u64 * BYTE_1 + runs.response as u64 * BYTE_2,
+        Err(refusal) => refusal.number() as u64,
     }
 }
 
-fn report_word(reported: Reported) -> u64
+fn check_word(checked: Result<(), Fault>) -> u64
+    requires { (checked_of checked).place < byte3 }
+    ensures { result ≡ check_word (checked_of checked) }
+{
+    match checked {
+        Ok(()) => 0,
+        Err(fault) => fault.refusal.number() as u64 + fault.place as u64 * BYTE_1,
+    }
+}
+
+fn report_word(reported: Result<usize, report::refusal::Refusal>) -> u64
     requires { SmallAnswer (reported_of reported) }
     ensures { result ≡ report_word (reported_of reported) }
 {
     match reported {
-        Reported::Refused(n, place) => n as u64 + place as u64 * BYTE_1,
-        Reported::Shown(size) => size as u64 * BYTE_1,
+        Ok(size) => size as u64 * BYTE_1,
+        Err(refusal) => refusal.number() as u64 + refusal.place() as u64 * BYTE_1,
     }
 }
 
-fn stream_word(told: Told) -> u64
-    requires { SmallTold (told_of told) }
+fn stream_word(told: Result<Option<Runs>, stream::refusal::Refusal>) -> u64
     ensures { result ≡ stream_word (told_of told) }
 {
     match told {
-        Told::Nothing => 0,
-        Told::Refused(n) => n as u64,
-        Told::Given { first, second } => BYTE_1 + first as u64 * BYTE_2 + second as u64 * BYTE_3,
+        Ok(Some(runs)) => BYTE_1 + runs.first as u64 * BYTE_2 + runs.response as u64 * BYTE_3,
+        Ok(None) => 0,
+        Err(refusal) => refusal.number() as u64,
     }
 }
 
@@ -116,8 +120,7 @@ pub fn rakhubole_iso9141_write(header: &[u8], body: &[u8], out: &mut [u8]) -> u6
 pub fn rakhubole_supplement_check(supplement: &[u8]) -> u64
     ensures { result ≡ check_word (check supplement.now) }
 {
-    let checked = check_supplement(supplement);
-    checked.refusal as u64 + checked.place as u64 * BYTE_1
+    check_word(check_supplement(supplement))
 }
 
 // Reports a frame of J1850 under a supplement: the rows at the start of `out`.
@@ -146,8 +149,7 @@ pub fn rakhubole_stream_read(state: &[u8; STATE_BYTES], part: &[u8], out: &mut [
     ensures told { result ≡ stream_word (runs_told (told_within (position_in state.now) part.now (length out.old))) }
     ensures left { out.new ≡ out_told (told_within (position_in state.now) part.now (length out.old)) out.old }
 {
-    let bytes = *state;
-    stream_word(tell(state_of(bytes), part, out))
+    stream_word(StreamState::from(*state).tell(part, out))
 }
 
 // Advances the state over the bytes that the telling call takes.
@@ -155,11 +157,8 @@ pub fn rakhubole_stream_advance(state: &mut [u8; STATE_BYTES], part: &[u8]) -> u
     ensures told { result ≡ taken (position_in state.old) part.now }
     ensures left { state.new ≡ bytes_of (after (position_in state.old) part.now) }
 {
-    let before = *state;
-    let advanced = advance(state_of(before), part);
-    let behind = advanced.state;
-    let bytes = bytes_of(behind);
-    *state = bytes;
+    let advanced = StreamState::from(*state).advance(part);
+    *state = advanced.state.into();
     advanced.taken as u64
 }
 
@@ -167,15 +166,15 @@ pub fn rakhubole_stream_advance(state: &mut [u8; STATE_BYTES], part: &[u8]) -> u
 pub fn rakhubole_stream_end(state: &[u8; STATE_BYTES]) -> u64
     ensures { result ≡ end_refusal (position_in state.now) }
 {
-    let bytes = *state;
-    end_refusal(state_of(bytes)) as u64
+    match StreamState::from(*state).end_refusal() {
+        Ok(()) => 0,
+        Err(refusal) => refusal.number() as u64,
+    }
 }
 
 // The place of the record begun, or of the next.
 pub fn rakhubole_stream_place(state: &[u8; STATE_BYTES]) -> u64
     ensures { result ≡ (position_in state.now).place }
 {
-    let bytes = *state;
-    let begun = state_of(bytes);
-    begun.place
+    StreamState::from(*state).place
 }

@@ -1,4 +1,4 @@
-// The calls of c_api under their names in C. include/rakhubole.h says them in words.
+// The calls of c_api under their names in C, which has these names and words, so each is one call. include/rakhubole.h says them in words.
 #![tactic(auto)]
 
 ghost use Rattle.std.specs.Prelude.{◌≡◌, length};

@@ -5,4 +5,4 @@ use Rattle.stream.proofs.state.Laws.{position_place}
 use Rattle.c_api.proofs.rakhubole_stream_place.Goals as goal
 
 pub returns : goal.returns
-returns c = position_place c.state_of-begun.result ∙ ap (λ (p : Position). p.place) c.state_of-begun.ensures
+returns c = position_place c.from.result ∙ ap (λ (p : Position). p.place) c.from.ensures
