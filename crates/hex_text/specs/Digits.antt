@@ -41,6 +41,10 @@ unfoldable pub bytes_from : List ℕ → ℕ → ℕ → List ℕ
 bytes_from text zero at = []
 bytes_from text (suc n) at = byte_from text at ∷ bytes_from text n (at + byte_digits)
 
+-- The run that a text starts with, as much of it as there is room for: its length, a space, its bytes.
+unfoldable pub run_in : List ℕ → ℕ → List ℕ
+run_in text room = take (byte_from text 0) (bytes_from text room 3)
+
 -- The last digit of a number.
 unfoldable pub last_digit : ℕ → ℕ
 last_digit n = cond (ltb (n % base) decimal_count) (char_zero + n % base) (char_lower_a - decimal_count + n % base)

@@ -2,7 +2,7 @@
 #![tactic(auto)]
 
 ghost use Rattle.std.specs.Prelude.{◌≡◌, ◌/◌, ◌<◌, min, get_or, length, take};
-ghost use Rattle.hex_text.specs.Digits.{digit_value, byte_from, bytes_from};
+ghost use Rattle.hex_text.specs.Digits.{digit_value, byte_from, bytes_from, run_in};
 ghost use Rattle.hex_text.specs.Digits.{byte_digits, last_digit, text_of, text_length, text_over};
 
 // Sixteen digits, of which ten are decimal and the others letters; two to a byte.
@@ -10,58 +10,56 @@ const BASE: u8 = 16;
 
 const DECIMALS: u8 = 10;
 
-const LETTERS: u8 = BASE - DECIMALS;
-
 const BYTE_DIGITS: usize = 2;
 
-// A digit's value; 0 for any other character.
+// How far behind its length a run starts.
+const TO_RUN: usize = 3;
+
+// A digit's value; 0 for any other character, small letters too, of which `to_digit` would give a value.
+#[tactic(auto, using(std::proofs::lemmas::Bool::Decides::nat_tests), unfolding(crate::specs::Digits::digit_value))]
 pub fn digit_value(c: u8) -> u8
     ensures { result ≡ digit_value c }
 {
-    if c < b'0' {
-        return 0;
+    match c {
+        b'0'..=b'9' => c - b'0',
+        b'A'..=b'F' => c - b'A' + DECIMALS,
+        _ => 0,
     }
-    if c < b'0' + DECIMALS {
-        return c - b'0';
-    }
-    if c < b'A' {
-        return 0;
-    }
-    if c < b'A' + LETTERS {
-        return c - b'A' + DECIMALS;
-    }
-    0
 }
 
-fn char_at(text: &[u8], at: usize) -> u8
-    ensures { result ≡ get_or text.now at 0 }
-{
-    if at < text.len() { text[at] } else { 0 }
-}
-
-// The byte whose two digits stand at a place.
+// The byte whose two digits stand at a place, of any characters: `from_str_radix` would refuse most.
+#[tactic(auto, using(crate::proofs::digits::Laws::small, crate::proofs::digits::Laws::beyond), unfolding(crate::specs::Digits::byte_from))]
 pub fn byte_from(text: &[u8], at: usize) -> u8
     ensures { result ≡ byte_from text.now at }
 {
-    let high = digit_value(char_at(text, at));
-    if text.len() <= at {
+    let Some(&high) = text.get(at) else {
         return 0;
-    }
-    high * BASE + digit_value(char_at(text, at + 1))
+    };
+    let low = text.get(at + 1).copied().unwrap_or(0);
+    digit_value(high) * BASE + digit_value(low)
 }
 
 // Fills `out` with the bytes that a text starts with; what the text lacks is zero.
+#[tactic(auto, using(crate::proofs::digits::Put::put_next, crate::proofs::digits::Laws::byte_by_byte))]
 pub fn fill(text: &[u8], out: &mut [u8])
     ensures { out.new ≡ bytes_from text.now (length out.old) 0 }
 {
-    let mut i: usize = 0;
-    while i < out.len() {
-        out[i] = byte_from(text, i * BYTE_DIGITS);
-        i += 1;
+    for (i, byte) in out.iter_mut().enumerate() {
+        *byte = byte_from(text, i * BYTE_DIGITS);
     }
 }
 
-// The last digit of a number, in lower case.
+// The run that a text starts with, put into a buffer of which it is handed out: two digits of its length, a space, its bytes.
+pub fn run_in<'a>(text: &[u8], run: &'a mut [u8]) -> &'a [u8]
+    ensures { result.now ≡ run_in text.now (length run.old) }
+{
+    let n = byte_from(text, 0);
+    fill(&text[TO_RUN.min(text.len())..], run);
+    counted(run, usize::from(n))
+}
+
+// The last digit of a number, in lower case; `from_digit` gives an Option of a char, and is no plainer.
+#[tactic(auto, using(std::proofs::lemmas::Bool::Decides::nat_tests), unfolding(crate::specs::Digits::last_digit))]
 fn last_digit(n: u8) -> u8
     ensures { result ≡ last_digit n }
 {
@@ -86,15 +84,17 @@ fn text_at(bytes: &[u8], at: usize) -> u8
     }
 }
 
-// Writes the text of bytes to the start of `out`, as far as there is room, and answers how many characters that is.
+// Writes the text of bytes to the start of `out`, as far as there is room, and answers how many characters that is. It may stop within a
+// byte, which `write!` would not.
+#[tactic(auto, using(crate::proofs::digits::Text::length_text))]
 pub fn write_text(bytes: &[u8], out: &mut [u8]) -> usize
     ensures answer { result ≡ text_length bytes.now (length out.old) }
     ensures lent { out.new ≡ text_over bytes.now out.old }
 {
-    let mut n: usize = 0;
-    while n < out.len() && n / BYTE_DIGITS < bytes.len() {
-        out[n] = text_at(bytes, n);
-        n += 1;
+    let n = out.len().min(bytes.len() * BYTE_DIGITS);
+    let part = &mut out[..n];
+    for (at, place) in part.iter_mut().enumerate() {
+        *place = text_at(bytes, at);
     }
     n
 }
@@ -103,12 +103,12 @@ pub fn write_text(bytes: &[u8], out: &mut [u8]) -> usize
 pub fn counted(bytes: &[u8], n: usize) -> &[u8]
     ensures { result.now ≡ take n bytes.now }
 {
-    if n < bytes.len() { &bytes[..n] } else { bytes }
+    &bytes[..n.min(bytes.len())]
 }
 
-// The fewer of two counts: how much of a buffer there is of so many bytes.
+// The fewer of two counts: how much of a buffer there is of so many bytes. It is `min` under a name that docs/CONTRACTS.md promises.
 pub fn fewer(n: usize, most: usize) -> usize
     ensures { result ≡ min n most }
 {
-    if n < most { n } else { most }
+    n.min(most)
 }

@@ -1,63 +1,25 @@
--- A digit's value, range by range.
+-- Laws of digits, and of the bytes of a text.
 use mathlib.Core.Path.{◌≡◌, refl, ap, ◌∙◌}
-use mathlib.Core.List.{List}
-use mathlib.Core.Bool.{Bool, true, false, cond}
-use Prim.Native.Nat.{ℕ, zero, suc, ◌+◌, ◌-◌, ◌*◌, ◌≤◌, ◌<◌}
+use mathlib.Core.List.{List, [], ◌∷◌, ◌++◌}
+use Prim.Native.Nat.{ℕ, zero, suc, ◌+◌, ◌*◌, ◌≤◌, ◌<◌}
 use native.Mathlib.Omega.{arith}
-use borrow.Author.Tests.{lt-ltb, le-ltb, ltb-true}
-use lib.Dec.{ltb}
-use lib.ListN.{length, get_or}
-use Rattle.hex_text.specs.Digits.{char_zero, char_upper_a, base, decimal_count, letter_count, byte_digits, digit_value, byte_from, bytes_from}
-
--- The first characters that are no digit: behind the decimal ones, and behind the letters.
-abbrev pub decimals_end : ℕ
-decimals_end = char_zero + decimal_count
-
-abbrev pub letters_end : ℕ
-letters_end = char_upper_a + letter_count
-
-pub below_digits : (c : ℕ) → c < char_zero → digit_value c ≡ 0
-unfolding digit_value
-below_digits c a = rw (lt-ltb c char_zero a)
-
-pub digits : (c : ℕ) → char_zero ≤ c → c < decimals_end → digit_value c ≡ c - char_zero
-unfolding digit_value
-digits c a b = rw (le-ltb c char_zero a, lt-ltb c decimals_end b)
-
-pub between : (c : ℕ) → decimals_end ≤ c → c < char_upper_a → digit_value c ≡ 0
-unfolding digit_value
-between c a b = rw (le-ltb c char_zero (omega arith), le-ltb c decimals_end a, lt-ltb c char_upper_a b)
-
-pub letters : (c : ℕ) → char_upper_a ≤ c → c < letters_end → digit_value c ≡ c - char_upper_a + decimal_count
-unfolding digit_value
-letters c a b =
-    rw (le-ltb c char_zero (omega arith), le-ltb c decimals_end (omega arith), le-ltb c char_upper_a a, lt-ltb c letters_end b)
-
-pub above_letters : (c : ℕ) → letters_end ≤ c → digit_value c ≡ 0
-unfolding digit_value
-above_letters c a =
-    rw (
-      le-ltb c char_zero (omega arith),
-      le-ltb c decimals_end (omega arith),
-      le-ltb c char_upper_a (omega arith),
-      le-ltb c letters_end a,
-    )
+use native.Mathlib.Numerals.{add-one}
+use Rattle.std.proofs.lemmas.Bool.Decides.{nat_tests}
+use lib.ListN.{length, take, drop, get_or, get_or-eq_default}
+use Rattle.std.proofs.lemmas.List.{get_or-take, get_or-drop}
+use Rattle.hex_text.specs.Digits.{base, byte_digits, digit_value, byte_from, bytes_from}
 
 pub small : (c : ℕ) → digit_value c < base
 unfolding digit_value
-small c =
-    go (ltb c char_zero) (ltb c decimals_end) (ltb c char_upper_a) (ltb c letters_end) (ltb-true c decimals_end) (ltb-true c letters_end)
-  where
-    go :
-        (s t u v : Bool)
-        → (t ≡ true → c < decimals_end)
-        → (v ≡ true → c < letters_end)
-        → cond s 0 (cond t (c - char_zero) (cond u 0 (cond v (c - char_upper_a + decimal_count) 0))) < base
-    go true t u v f g = omega arith
-    go false true u v f g = omega (arith, f refl)
-    go false false true v f g = omega arith
-    go false false false true f g = omega (arith, g refl)
-    go false false false false f g = omega arith
+small c = grind (arith, nat_tests)
+
+-- What lies past the end counts as no digit.
+pub beyond : (text : List ℕ) (at : ℕ) → length text ≤ at → byte_from text at ≡ 0
+unfolding byte_from digit_value
+beyond text at h =
+    let one : get_or text at 0 ≡ 0 = get_or-eq_default text 0 h in
+    let two : get_or text (at + 1) 0 ≡ 0 = get_or-eq_default text 0 (omega arith) in
+    rw (one, two)
 
 -- The bytes of a text one by one.
 pub length_bytes : (text : List ℕ) (n at : ℕ) → length (bytes_from text n at) ≡ n
@@ -65,10 +27,47 @@ unfolding bytes_from
 length_bytes text zero at = refl
 length_bytes text (suc n) at = ap suc (length_bytes text n (at + byte_digits))
 
-pub bytes_at : (text : List ℕ) (n at j : ℕ) → j < n → get_or (bytes_from text n at) j 0 ≡ byte_from text (at + j * byte_digits)
+pub no_bytes : (text : List ℕ) (at : ℕ) → bytes_from text 0 at ≡ []
 unfolding bytes_from
-bytes_at text zero at j h = absurd (omega arith)
-bytes_at text (suc n) at zero h = let e : at ≡ at + 0 * byte_digits = omega arith in ap (byte_from text) e
-bytes_at text (suc n) at (suc j) h =
-    let e : at + byte_digits + j * byte_digits ≡ at + suc j * byte_digits = omega arith in
-    bytes_at text n (at + byte_digits) j (omega arith) ∙ ap (byte_from text) e
+no_bytes text at = refl
+
+byte_behind : (text : List ℕ) (n at : ℕ) → bytes_from text (suc n) at ≡ bytes_from text n at ++ byte_from text (n * byte_digits + at) ∷ []
+unfolding bytes_from
+byte_behind text zero at = let e : at ≡ 0 * byte_digits + at = omega arith in ap (λ (k : ℕ). byte_from text k ∷ []) e
+byte_behind text (suc n) at =
+    let e : n * byte_digits + (at + byte_digits) ≡ suc n * byte_digits + at = omega arith in
+    let more = byte_behind text n (at + byte_digits) in
+    (λ i. byte_from text at ∷ more i) ∙ (λ i. (byte_from text at ∷ bytes_from text n (at + byte_digits)) ++ byte_from text (e i) ∷ [])
+
+pub one_byte_more : (text : List ℕ) (n at : ℕ) → bytes_from text (n + 1) at ≡ bytes_from text n at ++ byte_from text (n * byte_digits + at) ∷ []
+one_byte_more text n at = rw add-one (byte_behind text n at)
+
+pub ruleset byte_by_byte = (length_bytes, no_bytes, one_byte_more)
+
+-- The first of them, and as many of a longer text.
+pub first_bytes : (text : List ℕ) (n m at : ℕ) → n ≤ m → take n (bytes_from text m at) ≡ bytes_from text n at
+unfolding bytes_from
+first_bytes text zero m at h = refl
+first_bytes text (suc n) zero at h = absurd (omega arith)
+first_bytes text (suc n) (suc m) at h = ap (λ (l : List ℕ). byte_from text at ∷ l) (first_bytes text n m (at + byte_digits) (omega arith))
+
+pub bytes_before : (text : List ℕ) (n at m : ℕ) → at + n * byte_digits ≤ m → bytes_from (take m text) n at ≡ bytes_from text n at
+unfolding bytes_from byte_from
+bytes_before text zero at m h = refl
+bytes_before text (suc n) at m h =
+    let one : get_or (take m text) at 0 ≡ get_or text at 0 = get_or-take m text at 0 (omega arith) in
+    let two : get_or (take m text) (at + 1) 0 ≡ get_or text (at + 1) 0 = get_or-take m text (at + 1) 0 (omega arith) in
+    let more = bytes_before text n (at + byte_digits) m (omega arith) in
+    (λ i. (digit_value (one i) * base + digit_value (two i)) ∷ more i)
+
+-- As they stand behind the start of a text.
+pub bytes_behind : (text : List ℕ) (k n at : ℕ) → bytes_from (drop k text) n at ≡ bytes_from text n (k + at)
+unfolding bytes_from byte_from
+bytes_behind text k zero at = refl
+bytes_behind text k (suc n) at =
+    let one : get_or (drop k text) at 0 ≡ get_or text (k + at) 0 = get_or-drop k text at 0 in
+    let two : get_or (drop k text) (at + 1) 0 ≡ get_or text (k + at + 1) 0 =
+    get_or-drop k text (at + 1) 0 ∙ ap (λ (j : ℕ). get_or text j 0) (omega arith)
+    in
+    let more = bytes_behind text k n (at + byte_digits) ∙ ap (bytes_from text n) (omega arith) in
+    (λ i. (digit_value (one i) * base + digit_value (two i)) ∷ more i)

@@ -3,8 +3,9 @@ use mathlib.Core.Path.{◌≡◌, refl, ap, ◌∙◌}
 use mathlib.Core.List.{List, [], ◌∷◌}
 use Prim.Native.Nat.{ℕ, zero, suc, ◌+◌, ◌*◌, ◌/◌, ◌<◌}
 use native.Mathlib.Omega.{arith}
-use lib.ListN.{length, get_or}
-use Rattle.hex_text.specs.Digits.{last_digit, text_of}
+use lib.ListN.{length, get_or, take}
+use Rattle.std.proofs.lemmas.Grind.{common_steps}
+use Rattle.hex_text.specs.Digits.{last_digit, text_of, text_length, text_over}
 
 pub length_text : (bytes : List ℕ) → length (text_of bytes) ≡ 2 * length bytes
 unfolding text_of
@@ -26,3 +27,12 @@ low_digit (b ∷ bs) zero h = refl
 low_digit (b ∷ bs) (suc k) h =
     let e : 2 * suc k + 1 ≡ suc (suc (2 * k + 1)) = omega arith in
     ap (λ (i : ℕ). get_or (text_of (b ∷ bs)) i 0) e ∙ low_digit bs k (omega arith)
+
+-- What was written of it.
+pub written :
+    (bytes out text : List ℕ) (n : ℕ)
+    → text ≡ text_over bytes out
+    → n ≡ text_length bytes (length out)
+    → take n text ≡ take (length out) (text_of bytes)
+unfolding text_over
+written bytes out text n lent answer = rw (lent, answer) (grind (arith, common_steps))

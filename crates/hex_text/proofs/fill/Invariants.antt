@@ -1,12 +1,7 @@
 -- After i turns the first i bytes stand in their places.
-use Prim.Native.Nat.{◌-◌}
-use lib.ListN.{length}
+use Rattle.std.proofs.Common.{◌≡◌, ◌++◌, drop}
 use Rattle.hex_text.specs.Digits.{bytes_from}
-use Rattle.hex_text.proofs.digits.Put.{PutSoFar}
 use Rattle.hex_text.proofs.fill.Given as goal
 
 abbrev pub invariant-loop-i : goal.invariant-loop-i
-invariant-loop-i l = PutSoFar (bytes_from l.text (length l.initial.out) 0) l.initial.out l.out l.i
-
-abbrev pub decreases-loop-i : goal.decreases-loop-i
-decreases-loop-i l = length l.initial.out - l.i
+invariant-loop-i l = l.out ≡ bytes_from l.text l.i 0 ++ drop l.i l.initial.out

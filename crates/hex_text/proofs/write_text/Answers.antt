@@ -1,30 +1,24 @@
--- After n turns the first n characters stand in their places.
-use mathlib.Core.Path.{◌≡◌}
-use native.Mathlib.Omega.{arith}
-use lib.ListN.{length}
-use Rattle.hex_text.specs.Digits.{text_length, text_over}
+-- After so many turns the first so many characters stand in their places.
+use Rattle.std.proofs.Common.{◌<◌, arith, length, length-take-le, take}
+use Rattle.std.proofs.lemmas.List.{take_more}
+use Rattle.std.proofs.lemmas.Grind.{common_steps}
+use Rattle.hex_text.specs.Digits.{text_of, text_over}
+use Rattle.hex_text.proofs.digits.Put.{put_next}
 use Rattle.hex_text.proofs.digits.Text.{length_text}
-use Rattle.hex_text.proofs.digits.Put.{length_kept, one_put, ended}
 use Rattle.hex_text.proofs.write_text.Goals as goal
 
-pub loop-n-preserved : goal.loop-n-preserved
-loop-n-preserved c =
-    let loop = c.loop-n in
-    let bytes = c.args.bytes.now in
-    one_put loop.invariant _ (omega arith) (omega (arith, length_text bytes)) c.text_at.ensures
+pub loop-at-preserved : goal.loop-at-preserved
+loop-at-preserved c =
+    let text = text_of c.args.bytes.now in
+    let at = c.loop-at.at in
+    let room = length-take-le c.min-n.result c.args.out.now (omega arith) in
+    let within : at < length text = omega (arith, length_text c.args.bytes.now) in
+    let next = put_next (take at text) (take c.min-n.result c.args.out.now) at c.text_at.result (length-take-le at text (omega arith)) (omega arith) in
+    let more = take_more text at 0 within in
+    cc
 
-pub returns-else-n-bytes : goal.returns-else-n-bytes
+pub returns-clause-lent : goal.returns-clause-lent
 unfolding text_over
-returns-else-n-bytes c =
-    let inv = c.loop-n.invariant in
-    let a = c.args in
-    let all : c.loop-n.n ≡ text_length a.bytes.now (length a.out.now) = omega (arith, length_text a.bytes.now) in
-    record { answer = all; lent = ended inv all }
-
-pub returns-after-loop-n : goal.returns-after-loop-n
-unfolding text_over
-returns-after-loop-n c =
-    let inv = c.loop-n.invariant in
-    let a = c.args in
-    let all : c.loop-n.n ≡ text_length a.bytes.now (length a.out.now) = omega (arith, length_kept inv) in
-    record { answer = all; lent = ended inv all }
+returns-clause-lent c =
+    let n = length_text c.args.bytes.now in
+    grind (arith, common_steps)
