@@ -14,13 +14,13 @@ use Rattle.frame.specs.Reader.{read_rules_with, read_rules, read_refusal, parts_
 use Rattle.frame.specs.Iso.{sum, sum_byte, wrong_first, iso_read_rules, iso_read_refusal}
 use Rattle.catalogue.specs.Rows.{in_order}
 use Rattle.catalogue.specs.Tables.{slot_rows, prn_rows}
-use Rattle.catalogue.specs.Search.{first_where, is_found}
+use Rattle.catalogue.specs.Search.{first_where}
 use Rattle.catalogue.specs.Sae.{sae_slot, sae_prn}
 use Rattle.catalogue.specs.Kind.{kinds, kind_found, known, or_unknown, record_size, key_size}
-use Rattle.catalogue.specs.Record.{has_key, record_with, two, numbers, layout_row, all_zero, header_fits, selector_fits, layout_fits}
+use Rattle.catalogue.specs.Record.{has_key, record_with, two, numbers, layout_row, header_fits, selector_fits, layout_fits}
 use Rattle.catalogue.specs.Record.{in_range, in_sae, fault_rules, fault}
 use Rattle.catalogue.specs.Supplement.{records_in, records_of, check_from, check}
-use Rattle.catalogue.specs.Lookup.{or_record, catalogue_of, length_for}
+use Rattle.catalogue.specs.Lookup.{catalogue_of, length_for}
 use Rattle.report.specs.Bits.{bit_at, cut}
 use Rattle.report.specs.Scaling.{signed, pattern, raw_number, above, quotient, number_line, within_limits, form_line}
 use Rattle.report.specs.Spots.{spot_at, spot_of, spots, place_after}
@@ -43,10 +43,10 @@ reports_hold :
     × (map answered selector_cases ≡ map expected selector_cases)
     × (map answered record_cases ≡ map expected record_cases)
 unfolding whole_cases selector_cases record_cases answered expected report_answer answer_of fitted
-    check check_from fault fault_rules in_range in_sae layout_fits selector_fits header_fits all_zero records_of records_in record_size key_size
+    check check_from fault fault_rules in_range in_sae layout_fits selector_fits header_fits records_of records_in record_size key_size
     kinds kind_found known or_unknown first_broken read_frame read_refusal read_rules read_rules_with parts_of parts_at header_size
     type_table response_kind kind_asked count_rules count_refusal sent response_size is_sealed_by check_byte register feed steps step
-    catalogue_of or_record record_with has_key layout_row numbers two sae_prn prn_rows sae_slot slot_rows first_where is_found
+    catalogue_of record_with has_key layout_row numbers two sae_prn prn_rows sae_slot slot_rows first_where
     report_of key_byte key_target length_for group_of spots spot_of spot_at place_after item_line slot_line cut bit_at form_line within_limits in_order
     pattern number_line quotient above raw_number signed of_int div remainder_at response_line group_lines lines_of verdict verdict_of any
     report_bytes rows_of row big_endian to_bits

@@ -1,7 +1,7 @@
 -- Demand 3 does not hold without its premise: what the definitions compute for two supplements and a frame.
 use mathlib.Core.Path.{◌≡◌, refl, sym, ap, ◌∙◌, subst}
 use mathlib.Core.List.{List, [], ◌∷◌, Memᴰ}
-use mathlib.Core.Option.{some}
+use Rattle.std.proofs.Common.{Some}
 use Prim.Native.Nat.{ℕ}
 use native.Mathlib.Omega.{arith}
 use lib.IntN.{pos}
@@ -18,13 +18,13 @@ use Rattle.frame.specs.Frame.{Parts, parts_at}
 use Rattle.frame.specs.Reader.{read_rules_with, read_rules, read_refusal, parts_of, read_frame}
 use Rattle.catalogue.specs.Rows.{in_order}
 use Rattle.catalogue.specs.Tables.{slot_rows, prn_rows}
-use Rattle.catalogue.specs.Search.{first_where, is_found}
+use Rattle.catalogue.specs.Search.{first_where}
 use Rattle.catalogue.specs.Sae.{sae_slot, sae_prn}
 use Rattle.catalogue.specs.Kind.{kinds, kind_found, known, or_unknown, record_size, key_size}
-use Rattle.catalogue.specs.Record.{has_key, record_with, two, numbers, layout_row, all_zero}
+use Rattle.catalogue.specs.Record.{has_key, record_with, two, numbers, layout_row}
 use Rattle.catalogue.specs.Record.{header_fits, selector_fits, layout_fits, in_range, in_sae, fault_rules, fault}
 use Rattle.catalogue.specs.Supplement.{NoNewSelector, records_in, records_of, check_from, check}
-use Rattle.catalogue.specs.Lookup.{or_record, catalogue_of, length_for}
+use Rattle.catalogue.specs.Lookup.{catalogue_of, length_for}
 use Rattle.report.specs.Bits.{bit_at, cut}
 use Rattle.report.specs.Scaling.{signed, pattern, raw_number, above, quotient, number_line, within_limits, form_line}
 use Rattle.report.specs.Spots.{spot_at, spot_of, spots}
@@ -48,8 +48,8 @@ abbrev frame : Parts
 frame = record { header = 0x48 ∷ 0x6B ∷ 0x10 ∷ []; body = 0x41 ∷ 0x65 ∷ []; kind = Empty; response = [] }
 
 accepted_both : ((check one_byte_selector).refusal ≡ 0) × ((check no_selector).refusal ≡ 0)
-unfolding check check_from fault fault_rules in_range in_sae layout_fits selector_fits header_fits all_zero records_of records_in record_size key_size
-    kinds kind_found known or_unknown first_broken record_with has_key first_where is_found
+unfolding check check_from fault fault_rules in_range in_sae layout_fits selector_fits header_fits records_of records_in record_size key_size
+    kinds kind_found known or_unknown first_broken record_with has_key first_where
 accepted_both = (refl, refl)
 
 read : read_frame short_frame [] ≡ accepted frame
@@ -58,9 +58,9 @@ unfolding read_frame read_refusal read_rules read_rules_with parts_of parts_at h
 read = refl
 
 lines :
-    (line_at (under one_byte_selector frame) (item 0 0) ≡ some (number (pos 101) (pos 101) 1))
-    × (line_at (under no_selector frame) (item 0 0) ≡ some (number (pos 65) (pos 65) 1))
-unfolding records_of records_in record_size kinds kind_found or_unknown catalogue_of or_record length_for record_with has_key layout_row numbers two
+    (line_at (under one_byte_selector frame) (item 0 0) ≡ Some (number (pos 101) (pos 101) 1))
+    × (line_at (under no_selector frame) (item 0 0) ≡ Some (number (pos 65) (pos 65) 1))
+unfolding records_of records_in record_size kinds kind_found or_unknown catalogue_of length_for record_with has_key layout_row numbers two
     sae_prn prn_rows sae_slot slot_rows first_where report_of key_byte key_target group_of spots spot_of spot_at item_line slot_line cut bit_at form_line
     within_limits in_order pattern number_line quotient above raw_number signed of_int div line_at item_in
 lines = (refl, refl)
@@ -100,7 +100,7 @@ premise_needed =
       differs = differs;
       not_kept =
           λ k.
-          let same : some (number (pos 101) (pos 101) 1) ≡ some (number (pos 65) (pos 65) 1) = sym (k.shown (item 0 0) _ lines.0 refl) ∙ lines.1 in
+          let same : Some (number (pos 101) (pos 101) 1) ≡ Some (number (pos 65) (pos 65) 1) = sym (k.shown (item 0 0) _ lines.0 refl) ∙ lines.1 in
           let line : number (pos 101) (pos 101) 1 ≡ number (pos 65) (pos 65) 1 = cc in
           differs (ap row line);
     }

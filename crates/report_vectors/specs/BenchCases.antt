@@ -1,8 +1,7 @@
 -- P1 to P13 of document 01, "Bench cases", in its order, each Number with its fraction: one table, read beside the paper; one of its whole
 -- report; one of the refusals of ISO 9141-2; and those of document 02, K5, of selectors in reports and in the test of a supplement.
-use Rattle.std.specs.Prelude.{ℕ, ◌⊎◌, List, [], ◌∷◌, ◌++◌, ℤ, pos, neg_ℤ, replicate}
+use Rattle.std.specs.Prelude.{Option, None, Some, ℕ, ◌⊎◌, List, [], ◌∷◌, ◌++◌, ℤ, pos, neg_ℤ, replicate}
 use Rattle.std.proofs.Common.{inl, inr}
-use Rattle.std.proofs.Math.Option.{Option, none, some}
 use Rattle.std.specs.Float.{binary64}
 use Rattle.std.specs.Float.Ieee.{of_int}
 use Rattle.frame.specs.Reader.{read_refusal}
@@ -12,6 +11,7 @@ use Rattle.catalogue.specs.Rows.{unm, snm, slot, neg}
 use Rattle.catalogue.specs.Sae.{sae_slot}
 use Rattle.report.specs.declared.line.Line.{Line}
 use Rattle.report.specs.declared.line.Line.TheVariants.{Number, Invalid, Unknown}
+use Rattle.report.specs.Line.{no_slot_reason}
 use Rattle.report.specs.Scaling.{form_line}
 use Rattle.report.specs.Answer.{Answer, refused, shown, j1850_answer}
 
@@ -46,8 +46,8 @@ bench_cases =
     ∷ item (sae_slot unm 16 3) 0 (number (neg_ℤ (pos 70)) (neg_ℤ (pos 17920)) 256)
     ∷ item (sae_slot unm 8 102) 39 (number (neg_ℤ (pos 1)) (neg_ℤ (pos 1)) 1)
     -- P9: raw 80h is -128, as -128/1. P10: raw FFh is -1, as -1/1.
-    ∷ item (some signed_byte) 0x80 (number (neg_ℤ (pos 128)) (neg_ℤ (pos 128)) 1)
-    ∷ item (some signed_byte) 0xFF (number (neg_ℤ (pos 1)) (neg_ℤ (pos 1)) 1)
+    ∷ item (Some signed_byte) 0x80 (number (neg_ℤ (pos 128)) (neg_ℤ (pos 128)) 1)
+    ∷ item (Some signed_byte) 0xFF (number (neg_ℤ (pos 1)) (neg_ℤ (pos 1)) 1)
     -- P11: empty frame: 2. P12: H = 0, three bytes: 2. P13: thirteen bytes: 1.
     ∷ frame [] [] 2
     ∷ frame (0x48 ∷ 0x6B ∷ 0x10 ∷ []) [] 2
@@ -173,8 +173,8 @@ iso_cases =
 
 -- The line of a raw number by its SLOT; "no SLOT of that form, width and number, Unknown 3".
 unfoldable pub line_by : Option SlotRow → ℕ → Line
-line_by none raw = Unknown 3
-line_by (some s) raw = form_line s.form s.width s raw
+line_by None raw = Unknown no_slot_reason
+line_by (Some s) raw = form_line s.form s.width s raw
 
 -- What the definitions answer in a case, and what is expected of them.
 unfoldable pub answered : Case → Line ⊎ (ℕ ⊎ Answer (List ℕ))

@@ -1,6 +1,5 @@
 -- That demand 3 needs the premise of document 02, K5: two supplements that break it, and a frame whose shown line changes.
-use Rattle.std.specs.Prelude.{ℕ, ◌≡◌, false, List, [], pos}
-use Rattle.std.proofs.Math.Option.{some}
+use Rattle.std.specs.Prelude.{Some, ℕ, ◌≡◌, false, List, [], pos}
 use Rattle.frame.specs.Frame.{Parts}
 use Rattle.frame.specs.Refusal.{accepted}
 use Rattle.frame.specs.Reader.{read_frame}
@@ -20,9 +19,9 @@ pub record Needed (first second run : List ℕ) (name : Name) (before after : Li
   pub broken : NoNewSelector (records_of first) (records_of second) → ⊥
   pub parts : Parts
   pub read : read_frame run [] ≡ accepted parts
-  pub shown : line_at (under first parts) name ≡ some before
+  pub shown : line_at (under first parts) name ≡ Some before
   pub known : is_unknown before ≡ false
-  pub otherwise : line_at (under second parts) name ≡ some after
+  pub otherwise : line_at (under second parts) name ≡ Some after
   pub differs : row before ≡ row after → ⊥
   pub not_kept : Keeps (under first parts) (under second parts) → ⊥
 

@@ -1,7 +1,6 @@
 -- Streams in one table, read beside document 02, K4: the bytes, the frames and refusals with their places, and the place of the record
 -- that the end cuts.
-use Rattle.std.specs.Prelude.{ℕ, List, [], ◌∷◌, ◌++◌}
-use Rattle.std.proofs.Math.Option.{Option, none, some}
+use Rattle.std.specs.Prelude.{ℕ, List, [], ◌∷◌, ◌++◌, Option, None, Some}
 use Rattle.frame.specs.Refusal.{refused, accepted}
 use Rattle.stream.specs.Stream.{Event, Yield}
 
@@ -36,21 +35,21 @@ twelve_bytes = 1 ∷ 2 ∷ 3 ∷ 4 ∷ 5 ∷ 6 ∷ 7 ∷ 8 ∷ 9 ∷ 10 ∷ 11 �
 unfoldable pub stream_cases : List StreamCase
 stream_cases =
     -- no bytes; a tick; a frame; one behind a tick
-    case [] [] none
-    ∷ case tick [] none
-    ∷ case frame_record (frame_at 0 seven_bytes [] ∷ []) none
-    ∷ case (tick ++ frame_record) (frame_at 5 seven_bytes [] ∷ []) none
+    case [] [] None
+    ∷ case tick [] None
+    ∷ case frame_record (frame_at 0 seven_bytes [] ∷ []) None
+    ∷ case (tick ++ frame_record) (frame_at 5 seven_bytes [] ∷ []) None
     -- "Each whole kind 1 record without fault gives its two runs, unread", twelve bytes or none
     ∷ case (1 ∷ 9 ∷ 3 ∷ twelve_bytes)
-    (frame_at 0 (1 ∷ 2 ∷ 3 ∷ 4 ∷ 5 ∷ 6 ∷ 7 ∷ 8 ∷ 9 ∷ []) (10 ∷ 11 ∷ 12 ∷ []) ∷ []) none
-    ∷ case (1 ∷ 0 ∷ 0 ∷ 0 ∷ 0 ∷ 0 ∷ 0 ∷ 0 ∷ 0 ∷ 0 ∷ 0 ∷ 0 ∷ 0 ∷ 0 ∷ 0 ∷ []) (frame_at 0 [] [] ∷ []) none
+    (frame_at 0 (1 ∷ 2 ∷ 3 ∷ 4 ∷ 5 ∷ 6 ∷ 7 ∷ 8 ∷ 9 ∷ []) (10 ∷ 11 ∷ 12 ∷ []) ∷ []) None
+    ∷ case (1 ∷ 0 ∷ 0 ∷ 0 ∷ 0 ∷ 0 ∷ 0 ∷ 0 ∷ 0 ∷ 0 ∷ 0 ∷ 0 ∷ 0 ∷ 0 ∷ 0 ∷ []) (frame_at 0 [] [] ∷ []) None
     -- "60 unknown kind"; "after 60 no more is read or given"
-    ∷ case (0 ∷ frame_record) (refusal_at 0 60 ∷ []) none
-    ∷ case (frame_record ++ tick ++ 3 ∷ 1 ∷ []) (frame_at 0 seven_bytes [] ∷ refusal_at 20 60 ∷ []) none
+    ∷ case (0 ∷ frame_record) (refusal_at 0 60 ∷ []) None
+    ∷ case (frame_record ++ tick ++ 3 ∷ 1 ∷ []) (frame_at 0 seven_bytes [] ∷ refusal_at 20 60 ∷ []) None
     -- "61 lengths over 12 together or unused bytes not zero"; "after 61 reading goes on at the next record"
-    ∷ case (1 ∷ 9 ∷ 4 ∷ (twelve_bytes ++ frame_record)) (refusal_at 0 61 ∷ frame_at 15 seven_bytes [] ∷ []) none
-    ∷ case (1 ∷ 9 ∷ 2 ∷ (twelve_bytes ++ tick)) (refusal_at 0 61 ∷ []) none
+    ∷ case (1 ∷ 9 ∷ 4 ∷ (twelve_bytes ++ frame_record)) (refusal_at 0 61 ∷ frame_at 15 seven_bytes [] ∷ []) None
+    ∷ case (1 ∷ 9 ∷ 2 ∷ (twelve_bytes ++ tick)) (refusal_at 0 61 ∷ []) None
     -- "62 stream ended inside a record (61 is given only for a whole one)"
-    ∷ case (frame_record ++ 1 ∷ 9 ∷ 4 ∷ []) (frame_at 0 seven_bytes [] ∷ []) (some 15)
-    ∷ case (tick ++ 2 ∷ []) [] (some 5)
+    ∷ case (frame_record ++ 1 ∷ 9 ∷ 4 ∷ []) (frame_at 0 seven_bytes [] ∷ []) (Some 15)
+    ∷ case (tick ++ 2 ∷ []) [] (Some 5)
     ∷ []

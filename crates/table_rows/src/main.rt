@@ -3,14 +3,13 @@
 #![tactic(auto)]
 
 use catalogue::lookup::{find_prn, find_slot};
-use catalogue::rows::{PrnFound, SlotFound};
 use std::io::{self, Write};
 use vector_io::print_hex;
 
 // SLOT numbers of document 003 are far below this.
 const NUMBERS_END: u16 = 1024;
 
-// Forms run from 1 to 9 and widths from 1 to 64.
+// Forms run from 1 to 9 and widths from 1 to 64; numbers, as `find_slot` takes them.
 const FORMS_END: u8 = 10;
 
 const WIDTHS_END: u8 = 65;
@@ -30,39 +29,34 @@ fn show<W: Write>(out: &mut W, number: u64, digits: usize) -> io::Result<()> {
 }
 
 fn show_prn<W: Write>(out: &mut W, prn: u16) -> io::Result<()> {
-    let found = find_prn(b"", prn);
-    match found {
-        PrnFound::Missing => Ok(()),
-        PrnFound::Found(row) => {
-            write!(out, "P")?;
-            show(out, row.prn as u64, PAIR)?;
-            show(out, row.form as u64, BYTE)?;
-            show(out, row.width as u64, BYTE)?;
-            show(out, row.slot as u64, PAIR)?;
-            writeln!(out)
-        }
-    }
+    let Some(row) = find_prn(b"", prn) else {
+        return Ok(());
+    };
+    write!(out, "P")?;
+    show(out, u64::from(row.prn), PAIR)?;
+    show(out, u64::from(row.form), BYTE)?;
+    show(out, u64::from(row.width), BYTE)?;
+    show(out, u64::from(row.slot), PAIR)?;
+    writeln!(out)
 }
 
 fn show_slot<W: Write>(out: &mut W, form: u8, width: u8, number: u16) -> io::Result<()> {
-    let found = find_slot(b"", form, width, number);
-    match found {
-        SlotFound::Missing => Ok(()),
-        SlotFound::Found(row) => {
-            write!(out, "S")?;
-            show(out, row.form as u64, BYTE)?;
-            show(out, row.width as u64, BYTE)?;
-            show(out, row.number as u64, PAIR)?;
-            show(out, row.multiplier as u64, PAIR)?;
-            show(out, row.divisor as u64, PAIR)?;
-            show(out, row.offset as u64, FOUR)?;
-            show(out, row.lowest as u64, FOUR)?;
-            show(out, row.highest as u64, FOUR)?;
-            writeln!(out)
-        }
-    }
+    let Some(row) = find_slot(b"", form, width, number) else {
+        return Ok(());
+    };
+    write!(out, "S")?;
+    show(out, u64::from(row.form), BYTE)?;
+    show(out, u64::from(row.width), BYTE)?;
+    show(out, u64::from(row.number), PAIR)?;
+    show(out, u64::from(row.multiplier), PAIR)?;
+    show(out, u64::from(row.divisor), PAIR)?;
+    show(out, u64::from(row.offset), FOUR)?;
+    show(out, u64::from(row.lowest), FOUR)?;
+    show(out, u64::from(row.highest), FOUR)?;
+    writeln!(out)
 }
 
+// The three loops stand in functions of their own, by the project's rule of one loop a function.
 fn show_numbers<W: Write>(out: &mut W, form: u8, width: u8) -> io::Result<()> {
     for number in 0..NUMBERS_END {
         show_slot(out, form, width, number)?;
