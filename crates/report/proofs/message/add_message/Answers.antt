@@ -4,7 +4,7 @@ use mathlib.Core.List.{List, [], ◌∷◌, ◌++◌}
 use Rattle.std.proofs.Common.{Option}
 use Prim.Native.Nat.{ℕ, ◌+◌, ◌*◌, ◌≤◌}
 use native.Mathlib.Omega.{arith}
-use lib.ListN.{length, take, length-take}
+use lib.ListN.{length, take}
 use Rattle.frame.specs.Response.{kind_number}
 use Rattle.catalogue.specs.Record.{LayoutRow, most_prns}
 use Rattle.catalogue.specs.Supplement.{records_of}
@@ -43,13 +43,6 @@ module _
         let part : Part = record { bytes = body; from = from; to = to; prns = λ l. l.prns } in
         let sixteen = items_most (catalogue s) layout part most_prns (λ l h. layout_sixteen (records_of s) _ l (sym by_layout ∙ h)) in
         omega (arith, ap length e, group_count (catalogue s) layout part, sixteen)
-
-pub sought-layout-requires : goal.sought-layout-requires
-sought-layout-requires c =
-    omega (arith, ap length c.selector_of-selector.ensures, length-take {A = ℕ})
-
-pub add_group-requires : goal.add_group-requires
-add_group-requires c = omega (arith, ap length c.requires)
 
 pub push-requires : goal.push-requires
 push-requires c =
