@@ -24,13 +24,13 @@ pub(crate) fn is_sealed<C: Check>(run: &[u8]) -> bool
     }
 }
 
-// Puts the check byte of the first n bytes of out behind them.
+// Puts the check byte of what stands between two places of out at the second.
 #[tactic(auto, using(crate::proofs::bytes::Placed::stored))]
-pub(crate) fn seal<C: Check>(out: &mut [u8], n: usize)
-    requires { n < length out.old }
-    ensures { out.new ≡ placed out.old n (C.check (take n out.old) ∷ []) }
+pub(crate) fn seal<C: Check>(out: &mut [u8], from: usize, end: usize)
+    requires { (from ≤ end) × (end < length out.old) }
+    ensures { out.new ≡ placed out.old end (C.check (take (end - from) (drop from out.old)) ∷ []) }
 {
-    out[n] = C::check(&out[..n]);
+    out[end] = C::check(&out[from..end]);
 }
 
 // A run at the start of out: header, data, check byte.
@@ -40,6 +40,6 @@ pub(crate) fn put_sealed<C: Check>(header: &[u8], body: &[u8], out: &mut [u8]) -
     ensures size { result ≡ length (sealed_by C.check (header.now ++ body.now)) }
 {
     let end = put_both(header, body, out);
-    seal::<C>(out, end);
+    seal::<C>(out, 0, end);
     end + 1
 }

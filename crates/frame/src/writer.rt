@@ -60,16 +60,16 @@ fn accept_parts(header: &[u8], body: &[u8], response: &[u8], room: usize) -> Res
     Ok(())
 }
 
-// The response at the start of out, with a check byte over its data alone if its kind has one.
-fn put_response(kind: ResponseKind, response: &[u8], out: &mut [u8]) -> usize
-    requires { length (sent kind response.now) ≤ length out.old }
-    ensures placed { out.new ≡ placed out.old 0 (sent kind response.now) }
+// The response from a place on, with a check byte over its data alone if its kind has one.
+fn put_response(kind: ResponseKind, response: &[u8], out: &mut [u8], at: usize) -> usize
+    requires { at + length (sent kind response.now) ≤ length out.old }
+    ensures placed { out.new ≡ placed out.old at (sent kind response.now) }
     ensures size { result ≡ length (sent kind response.now) }
 {
-    put(response, out);
+    put(response, &mut out[at..]);
     let n = response.len();
     if kind == ResponseKind::Data {
-        seal::<Crc>(out, n);
+        seal::<Crc>(out, at, at + n);
         n + 1
     } else {
         n
@@ -88,7 +88,7 @@ pub fn write_frame(
 {
     accept_parts(header, body, response, out.len())?;
     let first = put_sealed::<Crc>(header, body, out);
-    let behind = put_response(kind_asked(header), response, &mut out[first..]);
+    let behind = put_response(kind_asked(header), response, out, first);
     Ok(Runs {
         first,
         response: behind,

@@ -6,7 +6,7 @@ use Prim.Native.Nat.{ℕ, suc, ◌+◌, ◌-◌, ◌≤◌, ◌<◌}
 use native.Mathlib.Omega.{arith}
 use borrow.Author.Tests.{eq-eqb, eqb-true, lt-ltb, ltb-true}
 use lib.Dec.{ltb, eqb}
-use lib.ListN.{length, take, get_or, length-append, drop_of_length-le}
+use lib.ListN.{length, take, drop, get_or, length-append, drop_of_length-le}
 use lib.Seq.{take_at, get_or_at, split_at}
 use Rattle.frame.specs.Bytes.{Bytes, placed}
 use Rattle.frame.specs.Seal.{sealed_by, is_sealed_by, OneChanged}
@@ -62,18 +62,20 @@ module _ (check : List ℕ → ℕ) where
       let l = sealed_last s e in
       ap (λ (b : ℕ). take (length s - 1) s ++ b ∷ []) (sym l.1) ∙ sym (unsnoc s l.0)
 
-  -- The check byte of a run at the start of lent memory, put right behind it, seals it.
+  -- The check byte of what stands from a place on, put right behind a run that was placed there, seals it.
   pub sealed_behind :
-      (out u : List ℕ) {o o' : List ℕ} {n : ℕ}
-      → o ≡ placed out 0 u
-      → o' ≡ placed o n (check (take n o) ∷ [])
-      → n ≡ length u
-      → length u ≤ length out
-      → o' ≡ placed out 0 (sealed_by check u)
+      (out : List ℕ) (at : ℕ) (u : List ℕ) {o o' : List ℕ} {from n : ℕ}
+      → o ≡ placed out at u
+      → o' ≡ placed o n (check (take (n - from) (drop from o)) ∷ [])
+      → from ≡ at
+      → n ≡ at + length u
+      → at + length u ≤ length out
+      → o' ≡ placed out at (sealed_by check u)
   unfolding sealed_by
-  sealed_behind out u {o = o} {n = n} e e' size fits =
-      let found : take n o ≡ u = (λ i. take (size i) (e i)) ∙ part_placed out 0 u (omega arith) in
-      joined out 0 u (check u ∷ []) e (e' ∙ ap (λ (w : List ℕ). placed o n (check w ∷ [])) found) (omega arith) (omega arith)
+  sealed_behind out at u {o = o} {from = from} {n = n} e e' f p fits =
+      let size : n - from ≡ length u = omega (arith, f, p) in
+      let found : take (n - from) (drop from o) ≡ u = (λ i. take (size i) (drop (f i) (e i))) ∙ part_placed out at u fits in
+      joined out at u (check u ∷ []) e (e' ∙ ap (λ (w : List ℕ). placed o n (check w ∷ [])) found) p fits
 
   -- Of two runs that differ in one byte only one is sealed: by the change itself where it is the last byte, else by the check byte.
   module _ (detects : Detects check) where

@@ -1,5 +1,5 @@
 -- Header and data are placed one behind the other, and the check byte seals them.
-use Rattle.std.proofs.Common.{◌++◌, arith, length-append}
+use Rattle.std.proofs.Common.{refl, ◌++◌, arith, length-append}
 use Rattle.frame.proofs.seal.Laws.{length_sealed, sealed_behind}
 use Rattle.frame.proofs.seal.put_sealed.Goals as goal
 
@@ -11,6 +11,6 @@ returns g c =
     let size = length-append a.header.now a.body.now in
     let told = c.put_both-end.ensures in
     record {
-      placed = sealed_behind check a.out.now both told.placed c.seal.ensures told.size (omega (arith, size));
+      placed = sealed_behind check a.out.now 0 both told.placed c.seal.ensures refl (omega (arith, told.size)) (omega (arith, size));
       size = omega (arith, told.size, length_sealed check both);
     }

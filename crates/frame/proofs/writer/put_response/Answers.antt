@@ -4,6 +4,7 @@ use Rattle.frame.specs.declared.response.ResponseKind.{ResponseKind}
 use Rattle.frame.specs.Bytes.{placed}
 use Rattle.frame.specs.CheckByte.{check_byte}
 use Rattle.frame.specs.Response.{sent, is_checked}
+use Rattle.frame.proofs.bytes.Placed.{tail_placed}
 use Rattle.frame.proofs.seal.Laws.{length_sealed, sealed_behind}
 use Rattle.frame.proofs.response.Laws.{sent_checked, sent_plain, sent_longer}
 use Rattle.frame.proofs.writer.put_response.Goals as goal
@@ -27,8 +28,8 @@ returns-then-eq c =
     let size = checked_size a.kind response yes in
     record {
       placed =
-          sealed_behind check_byte a.out.now response c.put.ensures c.seal.ensures refl (omega (arith, size))
-          ∙ ap (placed a.out.now 0) (sym (sent_checked a.kind response yes));
+          sealed_behind check_byte a.out.now a.at response (tail_placed _ _ response c.put.ensures) c.seal.ensures refl refl (omega (arith, size))
+          ∙ ap (placed a.out.now a.at) (sym (sent_checked a.kind response yes));
       size = sym size;
     }
 
@@ -37,4 +38,7 @@ returns-else-eq c =
     let a = c.args in
     let no : is_checked a.kind ≡ false = search rules in
     let plain = sent_plain a.kind a.response.now no in
-    record { placed = c.put.ensures ∙ ap (placed a.out.now 0) (sym plain); size = ap length (sym plain) }
+    record {
+      placed = tail_placed _ _ a.response.now c.put.ensures ∙ ap (placed a.out.now a.at) (sym plain);
+      size = ap length (sym plain);
+    }

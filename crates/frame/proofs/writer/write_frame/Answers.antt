@@ -8,7 +8,7 @@ use Rattle.frame.specs.Header.{kind_asked}
 use Rattle.frame.specs.Refusal.{accepted, no_refusal}
 use Rattle.frame.specs.Frame.{runs, out_written, most_bytes}
 use Rattle.frame.specs.Writer.{frame_of, write_refusal, write_frame}
-use Rattle.frame.proofs.bytes.Placed.{joined, tail_placed}
+use Rattle.frame.proofs.bytes.Placed.{joined}
 use Rattle.frame.proofs.seal.Laws.{length_sealed}
 use Rattle.frame.proofs.refusal.Laws.{refused_by}
 use Rattle.frame.proofs.writer.Laws.{writes, write_accepts}
@@ -46,18 +46,6 @@ put_sealed-first-requires c =
     let room = roomy a.header.now a.body.now a.response.now (length a.out.now) (sym c.in_ok-accept_parts.ensures) in
     omega (arith, room.0, length_sealed check_byte (a.header.now ++ a.body.now), length-append a.header.now a.body.now)
 
-pub slice_bounds-put_response-count : goal.slice_bounds-put_response-count
-slice_bounds-put_response-count c =
-    let a = c.args in
-    let room = roomy a.header.now a.body.now a.response.now (length a.out.now) (sym c.in_ok-accept_parts.ensures) in
-    omega (arith, room.0, c.put_sealed-first.ensures.size, c.put_sealed-first.auto)
-
-pub slice_bounds-put_response-start : goal.slice_bounds-put_response-start
-slice_bounds-put_response-start c =
-    let a = c.args in
-    let room = roomy a.header.now a.body.now a.response.now (length a.out.now) (sym c.in_ok-accept_parts.ensures) in
-    omega (arith, room.0, c.put_sealed-first.ensures.size, c.put_sealed-first.auto)
-
 pub put_response-behind-requires : goal.put_response-behind-requires
 put_response-behind-requires c =
     let a = c.args in
@@ -88,7 +76,7 @@ returns c =
     let answer = write_accepts header body response (length out) unrefused in
     let frame = frame_of header body response in
     let left : placed out 0 (first_run header body ++ second_run header response) ≡ out_written (accepted frame) out = refl in
-    let behind = tail_placed _ _ (second_run header response) (second.placed ∙ ap (placed _ 0) kind) in
+    let behind = second.placed ∙ ap (placed _ _) kind in
     record {
       told = (λ i. accepted (record { first = first.size i; response = (second.size ∙ ap length kind) i })) ∙ sym (ap runs answer);
       left =
