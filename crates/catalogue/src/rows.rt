@@ -34,12 +34,13 @@ pub struct PrnRow {
     pub slot: u16,
 }
 
-// A SLOT: key, scaling and raw limits. The offset is a 32-bit pattern in two's complement, and so are the limits of SNM.
+// A SLOT: key, scaling and raw limits. The offset is a 32-bit pattern in two's complement, and so are the limits of SNM. The key stands
+// from its low end on, so that a search loads it at once.
 #[derive(Clone, Copy)]
 pub struct SlotRow {
-    pub form: u8,
-    pub width: u8,
     pub number: u16,
+    pub width: u8,
+    pub form: u8,
     pub multiplier: u16,
     pub divisor: u16,
     pub offset: u32,
