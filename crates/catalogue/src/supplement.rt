@@ -92,7 +92,9 @@ fn check_with<const WORDS: usize>(s: &[u8]) -> Result<(), Fault>
     check_records(s, &mut filter)
 }
 
-// Tests any bytes: accepted, or the refusal and the place of the first record with a fault.
+// Tests any bytes: accepted, or the refusal and the place of the first record with a fault. Inlined, since its answer comes back through
+// memory, and to copy it once more takes half as long as to test no records.
+#[inline(always)]
 pub fn check_supplement(s: &[u8]) -> Result<(), Fault>
     ensures { checked_of result ≡ check s.now }
 {
