@@ -3,13 +3,14 @@ use mathlib.Core.Path.{◌≡◌, refl, sym, ap, ◌∙◌}
 use mathlib.Core.Logic.{⊎_elim}
 use mathlib.Core.Bool.{Bool, true, false, cond, ◌&&◌, true≢false}
 use mathlib.Core.List.Memᴰ
-use mathlib.Core.List.{List, [], ◌∷◌, map, Memᴰ}
+use mathlib.Core.List.{List, [], ◌∷◌, ◌++◌, map, Memᴰ}
 use Prim.Native.Nat.{ℕ, zero, suc, ◌≤◌, ◌<◌}
 use native.Mathlib.Nat.{le_of_suc-le-suc, not-suc-le-zero}
 use native.Mathlib.Omega.{arith}
 use borrow.Author.Tests.{ltb-true, ltb-false, eq-eqb, ne_eqb, eqb-true}
 use lib.Dec.{eqb, ltb}
 use lib.ListN.{length, get_or}
+use Rattle.std.specs.Option.{option_or}
 use Rattle.std.proofs.Common.{Option, None, Some, option_map, is_some, slice_get, find}
 use Rattle.std.proofs.lemmas.List.{length-map, get_or-map}
 use Rattle.std.proofs.lemmas.Option.{none-some, slice_get-get_or, slice_get_past}
@@ -67,6 +68,12 @@ pub first_map :
 unfolding first_where
 first_map f p [] = refl
 first_map f p (a ∷ l) = cases (p (f a)) (λ t. rw t) (λ e. rw e (first_map f p l))
+
+-- The search through one list and then another.
+pub first_append : {A : Type 0} (p : A → Bool) (l k : List A) → first_where p (l ++ k) ≡ option_or (first_where p l) (first_where p k)
+unfolding first_where
+first_append p [] k = refl
+first_append p (a ∷ l) k = cases (p a) (λ e. rw e) (λ e. rw e (first_append p l k))
 
 -- Tests that agree on every member find the same.
 pub first_same : {A : Type 0} (p q : A → Bool) (l : List A) → ((a : A) → Memᴰ a l → p a ≡ q a) → first_where p l ≡ first_where q l
@@ -142,10 +149,10 @@ no_key [] k h = refl
 no_key (a ∷ l) k h =
     first_passed (key_is k) a l (ne_eqb a k (h 0 (omega arith))) ∙ no_key l k (λ i b. h (suc i) (omega arith))
 
-place_found : (keys : List ℕ) (k i : ℕ) → i < length keys → get_or keys i 0 ≡ k → slice_get keys i ≡ first_where (key_is k) keys
+pub place_found : (keys : List ℕ) (k i : ℕ) → i < length keys → get_or keys i 0 ≡ k → slice_get keys i ≡ first_where (key_is k) keys
 place_found keys k i h e = slice_get-get_or keys i 0 h ∙ ap Some e ∙ sym (first_key keys k i h e)
 
-place_missing :
+pub place_missing :
     (keys : List ℕ) (k i : ℕ)
     → length keys ≤ i
     → ((i : ℕ) → i < length keys → get_or keys i 0 ≡ k → ⊥)
