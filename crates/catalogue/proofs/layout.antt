@@ -1,2 +1,3 @@
 -- Laws of layouts.
 pub mod Prns
+pub mod Used

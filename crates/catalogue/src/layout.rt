@@ -8,22 +8,27 @@ use crate::record::{LAYOUT_COUNT, LAYOUT_PRNS, two_at};
 use frame::bytes::byte_at;
 use std::marker::Model;
 
-// As many of the sixteen PRNs as the count says. It is not Copy: what is seen of it forgets the places behind the count.
-#[derive(Drop)]
+// As many of the sixteen PRNs as the count says. The places behind them are zero, so that what is seen of it gives its fields back.
+#[derive(Clone, Copy)]
 pub struct Layout {
     count: usize,
     prns: [u16; MOST_PRNS],
 }
 
 impl Model for Layout {
-    ghost use Rattle.std.specs.Prelude.{take, ◌≤◌};
-    ghost use Rattle.catalogue.specs.Record.{LayoutRow, most_prns};
+    ghost use Rattle.std.specs.Prelude.{length, take};
+    ghost use Rattle.catalogue.specs.Record.{LayoutRow};
+    ghost use Rattle.catalogue.specs.Lookup.{in_sixteen, UsedFirst};
 
     ghost Value = { LayoutRow };
 
     ghost view = { λ l. record { prns = take l.count l.prns } };
 
-    ghost invariant = { λ l. l.count ≤ most_prns };
+    ghost invariant = { λ l. UsedFirst l.count l.prns };
+
+    ghost inverse = { λ r. record { count = length r.prns; prns = in_sixteen r.prns } };
+
+    ghost inverse_ok = { λ l h i. record { count = h.used i; prns = h.rest i } };
 }
 
 impl Layout {

@@ -68,7 +68,7 @@ module _ (r : List ℕ) {prns : List ℕ} {n : ℕ} (read : PrnsRead r prns n) w
       ∙ sym (ap (λ (k : ℕ). get_or (first ++ zeros) k 0) place ∙ get_or-append-add first zeros (j - n) 0 ∙ zero_at (most_prns - n) (j - n))))
 
 -- A layout uses as many as its count says, at most sixteen.
-take_most : (n : ℕ) (l : List ℕ) → length l ≡ most_prns → take (min n most_prns) l ≡ take n l
+pub take_most : (n : ℕ) (l : List ℕ) → length l ≡ most_prns → take (min n most_prns) l ≡ take n l
 take_most n l e =
     cases (leb n most_prns)
     (λ t. let h : min n most_prns ≡ n = omega (arith, leb-true n most_prns t) in ap (λ (m : ℕ). take m l) h)
@@ -77,7 +77,7 @@ take_most n l e =
     ap (λ (m : ℕ). take m l) h ∙ take_all most_prns l (omega arith) ∙ sym (take_all n l (omega (arith, leb-false n most_prns f))))
 
 -- So many PRNs that are used are the first places, and there are sixteen places.
-used_taken : (n : ℕ) (r : List ℕ) → n ≤ most_prns → take n (prns_used n r) ≡ take n (layout_places r)
+pub used_taken : (n : ℕ) (r : List ℕ) → n ≤ most_prns → take n (prns_used n r) ≡ take n (layout_places r)
 unfolding prns_used
 used_taken n r h =
     let first : List ℕ = take n (layout_places r) in

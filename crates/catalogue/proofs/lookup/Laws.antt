@@ -17,7 +17,7 @@ use Rattle.catalogue.specs.Sae.{sae_prn, sae_slot}
 use Rattle.catalogue.specs.Record.{record_kind, record_with, FullKey, prn_row, slot_row, in_range}
 use Rattle.catalogue.specs.Record.{LayoutRow, most_prns, prns_at, layout_places, layout_row}
 use Rattle.catalogue.specs.Supplement.{Good, records_of}
-use Rattle.catalogue.specs.Lookup.{prn_key, slot_key, selector_key, layout_key, catalogue_of, catalogue, prns_used}
+use Rattle.catalogue.specs.Lookup.{prn_key, slot_key, selector_key, layout_key, catalogue_of, catalogue, prns_used, in_sixteen}
 use Rattle.catalogue.proofs.rows.Laws.{sized_slot}
 use Rattle.catalogue.proofs.sae.Laws.{sae_prn_fits, sae_slot_fits}
 use Rattle.catalogue.proofs.kind.Laws.{key_sizes}
@@ -36,6 +36,11 @@ used_length n r h =
     let size : length first ≡ n = length-take-le n (layout_places r) (omega (arith, length_numbers most_prns prns_at r)) in
     omega (arith, length-append first (replicate (most_prns - n) 0), size, length-replicate {A = ℕ} (most_prns - n) 0)
 
+room : (prns : List ℕ) → length prns ≤ most_prns → length (in_sixteen prns) ≡ most_prns
+unfolding in_sixteen
+room prns h =
+    omega (arith, h, length-append prns (replicate (most_prns - length prns) 0), length-replicate {A = ℕ} (most_prns - length prns) 0)
+
 -- The row of a layout's answer is the catalogue's.
 pub layout_told : (s key : List ℕ) → option_map layout_row (record_with key (records_of s)) ≡ (catalogue s).layout key
 unfolding catalogue_of
@@ -44,13 +49,16 @@ layout_told s key = refl
 -- At most sixteen PRNs, in room for sixteen, and none where there is no layout.
 pub layout_sized :
     (o : Option (List ℕ))
-    → ((l : LayoutRow) → option_map layout_row o ≡ Some l → length l.prns ≤ most_prns)
+    → ((l : LayoutRow) → option_map layout_row o ≡ Some l → (length l.prns ≤ most_prns) × (length (in_sixteen l.prns) ≡ most_prns))
     × ((n : ℕ) (r : List ℕ) → n ≤ most_prns → length (prns_used n r) ≡ most_prns)
     × (o ≡ None → option_map layout_row o ≡ None)
 unfolding layout_row
 layout_sized None = (λ l h. absurd (none-some l h), used_length, λ e. refl)
 layout_sized (Some r) = (
-  λ l h. let same : layout_row r ≡ l = cc in subst (λ (q : LayoutRow). length q.prns ≤ most_prns) same (sixteen r),
+  λ l h.
+      let same : layout_row r ≡ l = cc in
+      subst (λ (q : LayoutRow). (length q.prns ≤ most_prns) × (length (in_sixteen q.prns) ≡ most_prns)) same
+      (sixteen r, room (layout_row r).prns (sixteen r)),
   used_length,
   λ e. ap (option_map layout_row) e,
 )
