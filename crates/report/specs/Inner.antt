@@ -1,6 +1,6 @@
 -- What only inner functions cite: places within a window, Numbers that are fractions, what lines add up to. No
 -- public contract reaches here.
-use Rattle.std.specs.Prelude.{ℕ, ◌+◌, ◌≤◌, ◌||◌, List, [], ◌∷◌, length}
+use Rattle.std.specs.Prelude.{ℕ, ◌+◌, ◌-◌, ◌≤◌, ◌≡◌, ◌||◌, List, [], ◌∷◌, ◌++◌, length, take, replicate}
 use Rattle.std.specs.Coded.{Unit-prop, le_prop}
 use Rattle.catalogue.specs.Record.{most_prns}
 use Rattle.report.specs.declared.spots.Place.{Place}
@@ -64,3 +64,14 @@ together t u = record { flagged = t.flagged || u.flagged; unknown = t.unknown ||
 
 unfoldable pub tally_of : List Line → Tally
 tally_of ls = record { flagged = any is_flagged ls; unknown = any is_unknown ls; size = length (rows_of ls) }
+
+-- As many places as a report has lines at the most: lines, and Short behind them.
+unfoldable pub in_places : List Line → List Line
+in_places ls = ls ++ replicate (most_lines - length ls) Short
+
+-- So many places hold lines, which add up to a tally; the others are Short.
+pub record LinesHeld (held : List Line) (n : ℕ) (t : Tally) : Type 0 where
+  pub most : n ≤ most_lines
+  pub used : length (take n held) ≡ n
+  pub rest : in_places (take n held) ≡ held
+  pub sum : tally_of (take n held) ≡ t

@@ -12,8 +12,8 @@ use std::marker::Model;
 const MOST_LINES: usize = MOST_PRNS + 2;
 
 // The lines of a report: without a heap an array and how many of it count, seen as a list. They are added where they lie and lent for
-// reading, so that the array is never copied.
-#[derive(Drop)]
+// reading, so that the array is never copied. The places behind the count stay Short, so that the list gives all fields back.
+#[derive(Clone, Copy)]
 pub struct Lines {
     held: [Line; MOST_LINES],
     count: usize,
@@ -21,19 +21,22 @@ pub struct Lines {
 }
 
 impl Model for Lines {
-    ghost use Rattle.std.specs.Prelude.{◌≡◌, ◌≤◌, List, take};
+    ghost use Rattle.std.specs.Prelude.{List, length, take};
     ghost use Rattle.report.specs.declared.line.Line.{Line};
-    ghost use Rattle.report.specs.Inner.{most_lines, tally_of};
+    ghost use Rattle.report.specs.Inner.{in_places, LinesHeld, tally_of};
 
     ghost Value = { List Line };
 
     ghost view = { λ a. take a.count a.held };
 
-    ghost invariant = { λ a. (a.count ≤ most_lines) × (a.tally ≡ tally_of (take a.count a.held)) };
+    ghost invariant = { λ a. LinesHeld a.held a.count a.tally };
+
+    ghost inverse = { λ ls. record { held = in_places ls; count = length ls; tally = tally_of ls } };
+
+    ghost inverse_ok = { λ a h i. record { held = h.rest i; count = h.used i; tally = h.sum i } };
 }
 
 impl Lines {
-    #[tactic(auto, unfolding(crate::specs::Inner::tally_of, crate::specs::Verdict::any, crate::specs::Rows::rows_of))]
     pub(crate) fn new() -> Self
         ensures { result ≡ [] }
     {
@@ -44,7 +47,7 @@ impl Lines {
         }
     }
 
-    #[tactic(auto, using(crate::proofs::lines::Laws::tally_few, crate::proofs::lines::Laws::tally_more))]
+    #[tactic(auto, using(crate::proofs::lines::Laws::held_few))]
     pub(crate) fn push(&mut self, line: Line)
         requires { length self.old < most_lines }
         ensures { self.new ≡ self.old ++ line ∷ [] }
@@ -61,7 +64,7 @@ impl Lines {
     }
 
     // What the lines add up to, counted as they were added.
-    #[tactic(auto, using(crate::proofs::lines::Laws::tally_few))]
+    #[tactic(auto, using(crate::proofs::lines::Laws::held_few))]
     pub(crate) fn tally(&self) -> Tally
         ensures sum { result ≡ tally_of self.now }
         ensures most { result.size ≤ number_row_size * most_lines }
