@@ -27,13 +27,13 @@ use Rattle.report.specs.Fraction.{most_above}
 use Rattle.report.specs.Inner.{HoldsFraction}
 
 -- A number below 2 ^ 63, known to be another, is read back from its bits as that.
-reread : {y z : ℤ} → y ≡ z → mag z < 2 ^ 63 → to_z w64 (of_z w64 y) ≡ z
+pub reread : {y z : ℤ} → y ≡ z → mag z < 2 ^ 63 → to_z w64 (of_z w64 y) ≡ z
 reread {y} {z} e h = ap (λ (x : ℤ). to_z w64 (of_z w64 x)) e ∙ to_z-of_z w64 z (record { sfits = h })
 
 pub ruleset reads = (to_z-of_z, to_z_pos)
 
 -- The same for the result of a call, whose own range is known.
-result_is : {y z : ℤ} → mag y < 2 ^ 63 → y ≡ z → to_z w64 (of_z w64 y) ≡ z
+pub result_is : {y z : ℤ} → mag y < 2 ^ 63 → y ≡ z → to_z w64 (of_z w64 y) ≡ z
 result_is {y} {z} h e = to_z-of_z w64 y (record { sfits = h }) ∙ e
 
 -- Below half of the range a pattern is its own number; from there on it is that less the range.
@@ -73,7 +73,7 @@ size_of (suc w) l h =
     record { shifted = omega arith; within = p; twice = rw e t }
 
 -- A pattern is below the range, and so is the number.
-pattern_lt : (form w raw : ℕ) → 1 ≤ w → w ≤ 32 → raw < 2 ^ w → pattern form w raw < 2 ^ 32
+pub pattern_lt : (form w raw : ℕ) → 1 ≤ w → w ≤ 32 → raw < 2 ^ w → pattern form w raw < 2 ^ 32
 unfolding pattern
 pattern_lt form w raw l h r =
     let s = size_of w l h in
@@ -227,7 +227,7 @@ module _ (width : ℕ) (slot : SlotRow) (raw : ℕ) (h : width ≤ widest_shown)
   unfolding form_line
   text_is = rw (le-ltb widest_shown width h)
 
-  digits_is : form_line bcd width slot raw ≡ digits_line width raw
+  pub digits_is : form_line bcd width slot raw ≡ digits_line width raw
   unfolding form_line
   digits_is = rw (le-ltb widest_shown width h)
 
