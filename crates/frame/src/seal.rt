@@ -24,7 +24,8 @@ pub(crate) fn is_sealed<C: Check>(run: &[u8]) -> bool
     }
 }
 
-// Puts the check byte of what stands between two places of out at the second.
+// Puts the check byte of what stands between two places of out at the second. Places and no part of out, so that a check byte over the
+// wrong part is one operand away, and refused for that.
 #[tactic(auto, using(crate::proofs::bytes::Placed::stored))]
 pub(crate) fn seal<C: Check>(out: &mut [u8], from: usize, end: usize)
     requires { (from ≤ end) × (end < length out.old) }

@@ -60,7 +60,7 @@ fn accept_parts(header: &[u8], body: &[u8], response: &[u8], room: usize) -> Res
     Ok(())
 }
 
-// The response from a place on, with a check byte over its data alone if its kind has one.
+// The response from a place on, with a check byte over its data alone if its kind has one. A place and no part of out, as in `seal`.
 fn put_response(kind: ResponseKind, response: &[u8], out: &mut [u8], at: usize) -> usize
     requires { at + length (sent kind response.now) ≤ length out.old }
     ensures placed { out.new ≡ placed out.old at (sent kind response.now) }
