@@ -3,11 +3,11 @@ ghost use Rattle.std.specs.Prelude.{◌≡◌};
 ghost use Rattle.catalogue.specs.Sae.{prn_row_key, slot_row_key, packed, sae_prn, sae_slot};
 ghost use Rattle.catalogue.specs.Tables.{prn_rows, slot_rows};
 
-use crate::rows::{PrnRow, SlotRow};
+use crate::rows::{BMM, PrnRow, SlotRow};
 use crate::search::{Row, row_with};
 use crate::tables::{PRN_ROWS, SLOT_ROWS};
 
-// SAE numbers its SLOTs no higher, so a higher number is not sought.
+// SAE numbers its SLOTs no higher, so a higher number is not sought; nor is a form from BMM on, of which no SLOT is in the table.
 const HIGHEST_NUMBER: u16 = 255;
 
 impl Row for PrnRow {
@@ -59,6 +59,9 @@ pub(crate) fn slot_row(form: u8, width: u8, number: u16) -> Option<SlotRow>
     ensures { result ≡ sae_slot form width number }
 {
     if HIGHEST_NUMBER < number {
+        return None;
+    }
+    if BMM <= form {
         return None;
     }
     row_with(slot_rows(), packed(form, width, number))

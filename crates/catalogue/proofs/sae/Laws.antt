@@ -3,13 +3,13 @@ use Rattle.std.proofs.Common.{Option, None, Some}
 use mathlib.Core.Path.{◌≡◌, refl, sym, ap, ◌∙◌}
 use mathlib.Core.Bool.{Bool, true, false, ◌&&◌, true≢false}
 use mathlib.Core.List.{List, map}
-use Prim.Native.Nat.{ℕ, ◌<◌}
+use Prim.Native.Nat.{ℕ, ◌≤◌, ◌<◌}
 use native.Mathlib.Omega.{arith}
 use borrow.Author.Tests.{ltb-true, eqb-true, eq-eqb, ne_eqb}
 use lib.Dec.{eqb, ltb}
 use Rattle.catalogue.specs.declared.rows.PrnRow.{PrnRow}
 use Rattle.catalogue.specs.declared.rows.SlotRow.{SlotRow}
-use Rattle.catalogue.specs.Rows.{prn_fits, slot_fits, slot_sized}
+use Rattle.catalogue.specs.Rows.{bmm, prn_fits, slot_fits, slot_sized}
 use Rattle.catalogue.specs.Tables.{prn_rows, slot_rows}
 use Rattle.catalogue.specs.Search.{first_where, every, rising}
 use Rattle.catalogue.specs.Sae.{prn_is, slot_is, sae_prn, sae_slot, packed, prn_row_key, slot_row_key}
@@ -115,6 +115,20 @@ slot_beyond f w n h =
     and_false : (b : Bool) → (b && false) ≡ false
     and_false true = refl
     and_false false = refl
+
+-- No SAE SLOT has a form that reports do not scale.
+scaled_forms : every (λ r. ltb r.form bmm) slot_rows ≡ true
+unfolding slot_rows every
+scaled_forms = refl
+
+pub slot_unscaled : (f w n : ℕ) → bmm ≤ f → None ≡ sae_slot f w n
+unfolding sae_slot
+slot_unscaled f w n h =
+    sym
+    (none_found (slot_is f w n) slot_rows
+    (λ r m.
+    let scaled : r.form < bmm = ltb-true r.form bmm (every_is (λ q. ltb q.form bmm) slot_rows scaled_forms r m) in
+    rw (ne_eqb r.form f (λ e. omega arith)) refl))
 
 -- What a search by packed key finds is the SAE row.
 pub slot_searched :
