@@ -1,12 +1,11 @@
 -- Laws of a row: the bytes of its numbers, its parts placed one behind the other, and how long it is.
 use mathlib.Core.Path.{◌≡◌, refl, sym, ap, ◌∙◌}
-use mathlib.Core.List.{List, [], ◌∷◌, ◌++◌, append_assoc, append-nil}
+use mathlib.Core.List.{List, [], ◌∷◌, ◌++◌}
 use Prim.Native.Nat.{ℕ, zero, suc, ◌+◌, ◌-◌, ◌/◌, ◌%◌, ◌^◌, ◌≤◌, ◌<◌}
 use native.Mathlib.Omega.{arith}
-use native.Mathlib.Nat.{div-one, zero-add}
+use native.Mathlib.Nat.{div-one}
 use borrow.Rule.Slice.PartMut.{put_mid}
-use lib.ListN.{length, take, drop, set, length-append, length-take, length-drop, drop_of_length-le}
-use lib.Seq.{take_all, drop-drop}
+use lib.ListN.{length, take, drop, set, length-append, length-take, length-drop}
 use lib.IntN.{ℤ, pos, negsuc, nat_abs, ◌-ℤ◌}
 use lib.Signed.{mag, le_z}
 use mir.Syntax.{w64}
@@ -18,7 +17,7 @@ use Rattle.std.proofs.lemmas.Slice.{put_mid-paste}
 use mathlib.Core.Bool.{false, true≢false}
 use borrow.Author.Tests.{le-leb, le-ltb}
 use Rattle.frame.specs.Bytes.{placed}
-use Rattle.frame.proofs.bytes.Placed.{pasted, stored, joined}
+use Rattle.frame.proofs.bytes.Placed.{pasted, stored, joined, tail_placed}
 use Rattle.report.specs.declared.line.Line.{Line}
 use Rattle.report.specs.declared.line.Line.TheVariants.{Number, State, Bits, Text, Digits, Invalid, Short, Unknown, Left, Answered}
 use Rattle.report.specs.Rows.{double_bytes, whole_bytes, divisor_bytes, code_bytes, number_row_size, big_endian, twos_complement, number_body, row}
@@ -49,18 +48,7 @@ pub lent_placed :
     → o ≡ placed (take (length out - at) (drop at out)) 0 u
     → at + length u ≤ length out
     → put_mid at (length out - at) out o ≡ placed out at u
-unfolding placed
-lent_placed out at u {o} e fits =
-    let rest : List ℕ = drop at out in
-    let size : length rest ≡ length out - at = length-drop at out in
-    let whole : take (length out - at) rest ≡ rest = take_all (length out - at) rest (omega (arith, size)) in
-    let past : drop (length out - at) rest ≡ [] = drop_of_length-le rest (omega (arith, size)) in
-    let behind : drop (0 + length u) (take (length out - at) rest) ≡ drop (at + length u) out =
-    (λ i. drop (zero-add (length u) i) (whole i)) ∙ drop-drop (length u) at out in
-    (λ i. take at out ++ (e i ++ past i))
-    ∙ ap (λ (v : List ℕ). take at out ++ v) (append-nil _)
-    ∙ ap (λ (v : List ℕ). take at out ++ (u ++ v)) behind
-    ∙ sym (append_assoc (take at out) u (drop (at + length u) out))
+lent_placed out at u e fits = tail_placed out at u e
 
 -- A body copied right behind its kind.
 pub kind_behind :

@@ -1,6 +1,7 @@
 -- By the kind, then by the lengths, then by the room.
-use Rattle.std.proofs.Common.{◌≡◌, ℕ, ◌+◌, ◌-◌, List, ◌++◌, length, take, drop, sym, ap, ◌∙◌, zero-add, arith, length-take-le}
+use Rattle.std.proofs.Common.{◌≡◌, ℕ, ◌+◌, ◌-◌, length, take, drop, sym, ap, ◌∙◌, arith, length-take-le}
 use Rattle.frame.specs.Bytes.{placed}
+use Rattle.frame.proofs.bytes.Placed.{placed_start}
 use Rattle.stream.specs.Record.{frame_kind, frame_record_size, kind_of, first_length, second_length, runs_at}
 use Rattle.stream.specs.Inner.{kind_at}
 use Rattle.stream.proofs.record.Laws.{frame_at, fit_within, first_size, second_size}
@@ -42,11 +43,6 @@ slice_bounds-copy_from_slice-end-3 c =
     let whole = whole_frame_lem c.args.bytes.now 0 c.requires (sym c.byte_at.ensures ∙ frame_at _ c.in-Frame.ensures) in
     omega (arith, whole, c.in-Some.runs.short)
 
--- A run copied to the start of the output.
-laid : (out run : List ℕ) (n : ℕ) → length run ≡ n → run ++ drop n out ≡ placed out 0 run
-unfolding placed
-laid out run n e = ap (λ (k : ℕ). run ++ drop k out) (sym e ∙ sym (zero-add (length run)))
-
 pub returns : goal.returns
 returns c =
     let a = c.args in
@@ -66,7 +62,7 @@ returns c =
     (gives_frame r (length a.out.now) c.requires kind runs.fit (omega (arith, size, c.if-out-size.false)))
     (runs.first ∙ sym (first_size r whole fit))
     (runs.response ∙ sym (second_size r whole fit))
-    (laid a.out.now c.copy_from_slice.new.self n long
+    (placed_start a.out.now c.copy_from_slice.new.self n (sym long)
     ∙ ap (placed a.out.now 0) run
     ∙ runs_placed r (length a.out.now) c.requires kind runs.fit a.out.now) in
     record { told = so.0; left = so.1 }
